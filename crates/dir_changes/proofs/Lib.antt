@@ -1,0 +1,11 @@
+pub mod UndoLaw
+pub mod EditLaws
+pub mod ReadLaws
+pub mod DirLaws
+pub mod PlaceLaws
+pub mod MergeLaws
+pub mod SearchLaws
+pub mod LastLaws
+pub mod CombineLaws
+pub mod CombineAtLaws
+pub mod KeptLaws

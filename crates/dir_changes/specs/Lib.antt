@@ -1,0 +1,10 @@
+pub mod Entries
+pub mod Undo
+pub mod History
+pub mod Children
+pub mod Merge
+pub mod Recorded
+pub mod Sound
+pub mod Rows
+pub mod Spare
+pub mod Inside

@@ -1,0 +1,136 @@
+//! A record is taken into the one before it.
+ghost use Rattle.std.specs.Prelude.{◌≡◌, ℕ, ◌+◌, ◌<◌, ◌≤◌, [], ◌++◌, IsTrue, length, map, take, drop, vec_len, vec_capacity};
+ghost use Rattle.std.specs.VecDeque.{deque_len};
+ghost use Rattle.dir_changes.specs.Entries.{in_order, among, without, with_all};
+ghost use Rattle.dir_changes.specs.History.{cancelled, ids_of, with_later, combined_at, dropped_at};
+ghost use Rattle.dir_changes.specs.Recorded.{past_of, diff_of};
+ghost use Rattle.dir_changes.specs.Spare.{IsEmptyRoom, IsMeasured, HoldsBoth, HoldsPairs};
+ghost use Rattle.dir_changes.specs.Sound.{LastHasRoom};
+
+use crate::child::Child;
+use crate::children::Children;
+use crate::merge::{drop_names, put_all, stands_in};
+use crate::recorded::DirRecord;
+use crate::spare::MergeRoom;
+use hs_types::{InodeId, List};
+use std::collections::VecDeque;
+use std::mem::replace;
+
+/// Takes the later record's lists into the earlier one. Hands back the ids of the deleted entries that the earlier
+/// one had created: they stand in no list any more.
+pub fn take_later(earlier: &mut DirRecord, later: DirRecord, room: MergeRoom) -> List<InodeId>
+    requires empty { IsEmptyRoom room }
+    requires holds { HoldsBoth earlier.old later room }
+    ensures past { past_of earlier.new ≡ with_later (past_of earlier.old) (past_of later) }
+    ensures ids { result ≡ ids_of (cancelled (diff_of earlier.old) (diff_of later)) }
+    ensures created_room { vec_capacity room.created ≤ earlier.new.created.room + (length earlier.old.created.entries + length later.created.entries) }
+    ensures deleted_room { vec_capacity room.deleted ≤ earlier.new.deleted.room + (length earlier.old.deleted.entries + length later.deleted.entries) }
+{
+    let MergeRoom {
+        created,
+        deleted,
+        mut found,
+        ids,
+        most_created: _,
+        most_deleted: _,
+    } = room;
+    let mut later_deleted = VecDeque::from(later.deleted.into_vec());
+    take_found(&mut later_deleted, earlier.created.items(), &mut found);
+    let empty = Children::new(*found.allocator());
+    let earlier_deleted = replace(&mut earlier.deleted, empty).into_vec();
+    earlier.deleted = put_together(deleted, earlier_deleted, later_deleted);
+    let empty = Children::new(*found.allocator());
+    let mut earlier_created = replace(&mut earlier.created, empty).into_vec();
+    drop_names(&mut earlier_created, found.as_slice());
+    let later_created = VecDeque::from(later.created.into_vec());
+    earlier.created = put_together(created, earlier_created, later_created);
+    ids_in(ids, found.as_slice())
+}
+
+/// The list with each of `more` in its place, in the memory of `out`.
+fn put_together(mut out: Vec<Child>, list: Vec<Child>, more: VecDeque<Child>) -> Children
+    requires empty { out.items ≡ [] }
+    requires list_in_order { IsTrue (in_order list.items) }
+    requires more_in_order { IsTrue (in_order more.items) }
+    requires room { vec_len list + deque_len more ≤ vec_capacity out }
+    ensures put { result.entries ≡ with_all more.items list.items }
+    ensures room { vec_capacity out ≤ result.room + (vec_len list + deque_len more) }
+{
+    put_all(&mut out, VecDeque::from(list), more);
+    Children::of_vec(out)
+}
+
+/// Moves the entries whose names stand in `names` to `found`. The others stay, in order.
+fn take_found(list: &mut VecDeque<Child>, names: &[Child], found: &mut Vec<Child>)
+    requires in_order { IsTrue (in_order names.now) }
+    requires room { vec_len found.old + deque_len list.old ≤ vec_capacity found.old }
+    ensures rest { list.new.items ≡ without names.now list.old.items }
+    ensures found { found.new.items ≡ found.old.items ++ among names.now list.old.items }
+    ensures len { deque_len list.new + vec_len found.new ≡ deque_len list.old + vec_len found.old }
+    ensures capacity { vec_capacity found.new ≡ vec_capacity found.old }
+{
+    for _ in 0..list.len() {
+        turn(list, names, found);
+    }
+}
+
+/// Moves the first entry to `found`, where its name stands in `names`, and else to the end.
+fn turn(list: &mut VecDeque<Child>, names: &[Child], found: &mut Vec<Child>)
+    requires in_order { IsTrue (in_order names.now) }
+    requires room { vec_len found.old < vec_capacity found.old }
+    ensures rest { list.new.items ≡ drop 1 list.old.items ++ without names.now (take 1 list.old.items) }
+    ensures found { found.new.items ≡ found.old.items ++ among names.now (take 1 list.old.items) }
+    ensures len { deque_len list.new + vec_len found.new ≡ deque_len list.old + vec_len found.old }
+    ensures few { vec_len found.new ≤ vec_len found.old + 1 }
+    ensures capacity { vec_capacity found.new ≡ vec_capacity found.old }
+{
+    if let Some(child) = list.pop_front() {
+        if stands_in(names, &child) {
+            found.push_reserved(child);
+        } else {
+            list.push_back_reserved(child);
+        }
+    }
+}
+
+/// The ids of these entries, in the memory of `ids`.
+pub fn ids_in(mut ids: Vec<InodeId>, children: &[Child]) -> List<InodeId>
+    requires empty { ids.items ≡ [] }
+    requires room { length children.now ≤ vec_capacity ids }
+    ensures { result ≡ ids_of children.now }
+{
+    for child in children {
+        ids.push_reserved(child.id);
+    }
+    List::of(ids)
+}
+
+/// Takes record `i` into the one before it, or drops it as the first. Hands back the ids of the deleted entries that
+/// are dropped.
+pub fn combine_at(records: &mut Vec<DirRecord>, i: usize, room: MergeRoom) -> List<InodeId>
+    requires there { i < vec_len records.old }
+    requires empty { IsEmptyRoom room }
+    requires measured { IsMeasured records.old.items room }
+    requires holds { HoldsPairs 0 room }
+    ensures combined { map past_of records.new.items ≡ combined_at i (map past_of records.old.items) }
+    ensures ids { result ≡ ids_of (dropped_at i (map past_of records.old.items)) }
+    ensures last_room { (n : ℕ) → HoldsPairs n room → LastHasRoom n records.old.items → LastHasRoom n records.new.items }
+    ensures len { vec_len records.new + 1 ≡ vec_len records.old }
+    ensures capacity { vec_capacity records.new ≡ vec_capacity records.old }
+{
+    let later = records.remove(i);
+    if i == 0 {
+        drop_first(later, room)
+    } else {
+        take_later(&mut records[i - 1], later, room)
+    }
+}
+
+/// The ids of all its deleted entries.
+fn drop_first(first: DirRecord, room: MergeRoom) -> List<InodeId>
+    requires empty { room.ids.items ≡ [] }
+    requires room { length first.deleted.entries ≤ vec_capacity room.ids }
+    ensures { result ≡ ids_of first.deleted.entries }
+{
+    ids_in(room.ids, first.deleted.items())
+}

@@ -1,0 +1,18 @@
+//! Where bytes come from and go to: sources and sinks that may fail and count it, and the two loops over them.
+#![tactic(auto)]
+
+pub mod input;
+pub mod mem_sink;
+pub mod mem_source;
+pub mod output;
+mod schedule;
+pub mod standard;
+
+pub use input::{Failed, InputErr, Source, read_all};
+pub use mem_sink::MemSink;
+pub use mem_source::MemSource;
+pub use output::{Sink, SinkErr, write_all};
+pub use standard::{StdSink, StdSource};
+
+#[cfg(test)]
+mod tests;

@@ -1,0 +1,9 @@
+pub mod Asked
+pub mod Tree
+pub mod State
+pub mod Valid
+pub mod Answer
+pub mod Legal
+pub mod Faults
+pub mod Viewed
+pub mod Lines

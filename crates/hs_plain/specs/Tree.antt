@@ -1,0 +1,97 @@
+-- A tree is the list of its places, by rising paths: a finite map from paths to nodes.
+use Rattle.std.specs.Prelude.{◌≡◌, ℕ, ◌+◌, ◌-◌, Bool, true, false, ◌&&◌, ◌==◌, bytes_eq, if◌then◌else◌, List, [], ◌∷◌, ◌++◌, map, length, take, drop, Option, Some, None, Ok, Err, is_some}
+use Rattle.std.specs.List.{list_all, filter_map, starts_with}
+use Rattle.std.specs.Ordering.{nat_cmp, is_gt}
+use Rattle.std.specs.declared.cmp.Ordering.{Ordering}
+use Rattle.std.specs.Cmp.Lexicographic.{slice_cmp, pointwise}
+use Rattle.std.specs.FinMap.Entries.{find, put, is_sorted}
+use Rattle.hs_types.specs.Names.{Names}
+use Rattle.hs_types.specs.declared.call.Refusal.TheVariants.{NotFound, NotDir}
+use Rattle.hs_types.specs.declared.call.Item.{Item}
+use Rattle.hs_plain.specs.declared.state.Node.{Node}
+use Rattle.hs_plain.specs.declared.state.Body.{Body}
+use Rattle.hs_plain.specs.declared.state.Body.TheVariants.{File, Dir}
+use Rattle.hs_plain.specs.Asked.{Asked, ◌>>=◌}
+
+-- each place with its node
+abbrev pub Tree : Type 0 → Type 0
+Tree B = List (Names × Node B)
+
+-- names by their bytes, paths name by name, a path before those below it
+abbrev pub path_cmp : Names → Names → Ordering
+path_cmp = slice_cmp (slice_cmp nat_cmp)
+
+-- whether a path comes after a place
+abbrev pub is_after : {B : Type 0} → Names → Names × Node B → Bool
+is_after path place = is_gt (path_cmp path place.0)
+
+-- the node at a path
+abbrev pub node_at : {B : Type 0} → Tree B → Names → Option (Node B)
+node_at tree path = find path_cmp path tree
+
+abbrev pub is_dir_body : {B : Type 0} → Body B → Bool
+is_dir_body (File bytes) = false
+is_dir_body Dir = true
+
+abbrev pub is_dir : {B : Type 0} → Node B → Bool
+is_dir node = is_dir_body node.body
+
+-- a walk goes on below a directory alone
+abbrev pub passes : {B : Type 0} → Option (Node B) → Asked (Unit {0})
+passes None = Err NotFound
+passes (Some node) = if is_dir node then Ok tt else Err NotDir
+
+-- the walk from a node down to the parent of a path below it: NotFound at the first missing component, NotDir at the first file
+abbrev pub walks_from : {B : Type 0} → Tree B → Names → Names → Asked (Unit {0})
+walks_from tree here [] = Ok tt
+walks_from tree here (name ∷ below) = passes (node_at tree here) >>= λ _. walks_from tree (here ++ name ∷ []) below
+
+-- the walk from the root to a path's parent
+abbrev pub walks_above : {B : Type 0} → Tree B → Names → Asked (Unit {0})
+walks_above tree path = walks_from tree [] path
+
+abbrev pub found : {B : Type 0} → Option (Node B) → Asked (Node B)
+found None = Err NotFound
+found (Some node) = Ok node
+
+-- the whole walk: the node at the path
+abbrev pub walk : {B : Type 0} → Tree B → Names → Asked (Node B)
+walk tree path = walks_above tree path >>= λ _. found (node_at tree path)
+
+-- the directory above a path
+abbrev pub parent_of : Names → Names
+parent_of path = take (length path - 1) path
+
+abbrev pub only_name : Names → Option (List ℕ)
+only_name [] = None
+only_name (name ∷ []) = Some name
+only_name (name ∷ next ∷ rest) = None
+
+-- the one name that leads from a directory to a path, if one name does
+abbrev pub name_below : Names → Names → Option (List ℕ)
+name_below dir path = if starts_with bytes_eq path dir then only_name (drop (length dir) path) else None
+
+abbrev pub item_of : {B : Type 0} → Node B → List ℕ → Item
+item_of node name = record { name = name; id = node.id; is_dir = is_dir node }
+
+abbrev pub named_item : {B : Type 0} → Node B → Option (List ℕ) → Option Item
+named_item node None = None
+named_item node (Some name) = Some (item_of node name)
+
+-- the item of a place, where it is a child of the directory
+abbrev pub child_item : {B : Type 0} → Names → Names × Node B → Option Item
+child_item dir place = named_item place.1 (name_below dir place.0)
+
+-- the items of a directory, in name order
+abbrev pub listing : {B : Type 0} → Tree B → Names → List Item
+listing tree dir = filter_map (child_item dir) tree
+
+abbrev pub same_path : Names → Names → Bool
+same_path = pointwise bytes_eq
+
+-- the tree with a new stamp of the node at a path
+abbrev pub restamp : {B : Type 0} → Names → ℕ → Names × Node B → Names × Node B
+restamp path tick place = if same_path path place.0 then (place.0, record place.1 { stamp = tick }) else place
+
+abbrev pub stamped : {B : Type 0} → Tree B → Names → ℕ → Tree B
+stamped tree path tick = map (restamp path tick) tree

@@ -1,0 +1,26 @@
+-- The numbers and names of refusals.
+use Rattle.std.specs.Prelude.{ℕ, List, codes}
+use Rattle.hs_types.specs.declared.call.Refusal.{Refusal}
+use Rattle.hs_types.specs.declared.call.Refusal.TheVariants.{BadPath, TooLong, TooDeep, Reserved, ReadOnly, NotFound, NotDir, Exists}
+
+-- the number of a refusal; of several that hold, the one with the least number is answered
+abbrev pub number_of : Refusal → ℕ
+number_of BadPath = 1
+number_of TooLong = 2
+number_of TooDeep = 3
+number_of Reserved = 4
+number_of ReadOnly = 5
+number_of NotFound = 6
+number_of NotDir = 7
+number_of Exists = 9
+
+-- the name of a refusal, as it is printed
+abbrev pub refusal_name : Refusal → List ℕ
+refusal_name BadPath = codes "BadPath"
+refusal_name TooLong = codes "TooLong"
+refusal_name TooDeep = codes "TooDeep"
+refusal_name Reserved = codes "Reserved"
+refusal_name ReadOnly = codes "ReadOnly"
+refusal_name NotFound = codes "NotFound"
+refusal_name NotDir = codes "NotDir"
+refusal_name Exists = codes "Exists"

@@ -1,0 +1,4 @@
+pub mod ScriptLines
+pub mod Small
+pub mod TextModes
+pub mod Turns

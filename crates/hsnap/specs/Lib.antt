@@ -1,0 +1,10 @@
+pub mod CallText
+pub mod ReadStatus
+pub mod Run
+pub mod Script
+pub mod ScriptFaults
+pub mod Serial
+pub mod Statuses
+pub mod Text
+pub mod TextParts
+pub mod Turn

@@ -1,0 +1,160 @@
+//! The top call: from bytes to bytes, one command after the other.
+ghost use Rattle.std.specs.Prelude.{◌≡◌, ◌≤◌, ◌↔◌, true, false, List, ℕ, Option, Some, length, IfOk, IfErr, OnOk, OnErr};
+ghost use Rattle.hs_io.specs.Bytes.{Takes};
+ghost use Rattle.hs_io.specs.Faults.{Rose};
+ghost use Rattle.hsnap.specs.Script.{script_of};
+ghost use Rattle.hsnap.specs.Run.{IsRun};
+ghost use Rattle.hsnap.specs.Text.{text_of as plain_text_of};
+ghost use Rattle.hsnap.specs.ReadStatus.{IsReadCause};
+ghost use Rattle.hsnap.specs.declared.script.Command.{Command};
+ghost use Rattle.hsnap.specs.Serial.{is_serial as is_plain_serial, most_bytes, IsScriptRead, IsDone, IsNoScript, IsTooLarge, not_run, no_end as plain_no_end, is_script_fault, is_early, is_ok_or_no_memory};
+
+use crate::ran::{End, FaultKind, Ran, Status};
+use crate::runner;
+use crate::script::{self, Command, ScriptFault};
+use crate::text::text_of;
+use hs_io::{InputErr, Sink, SinkErr, Source, read_all, write_all};
+use hs_types::{Counts, List, NameText, NoMemory};
+use std::alloc::Global;
+
+/// The most bytes that an input has.
+const MOST_BYTES: usize = 16_777_216;
+
+/// Whether the words are the command line.
+fn is_serial(words: &[NameText]) -> bool
+    ensures { result ≡ is_plain_serial words.now }
+{
+    match words {
+        [word] => word.text() == "serial",
+        _ => false,
+    }
+}
+
+/// A run in which nothing was run.
+fn unrun(alloc: Global, status: Status) -> Ran
+    ensures { result ≡ not_run status }
+{
+    Ran {
+        status,
+        source: List::new(alloc),
+        target: List::new(alloc),
+        logs: List::new(alloc),
+        source_end: no_end(alloc),
+        target_end: no_end(alloc),
+    }
+}
+
+fn no_end(alloc: Global) -> End
+    ensures { result ≡ plain_no_end }
+{
+    End {
+        tree: List::new(alloc),
+        counts: Counts {
+            rows: 0,
+            records: 0,
+            list_entries: 0,
+            snapshots: 0,
+            blocks: 0,
+        },
+    }
+}
+
+/// Reads the whole input, and the script that it means.
+fn read_script<I: Source>(alloc: Global, input: &mut I) -> Result<List<Command>, Status>
+    ensures script { IfOk result (IsScriptRead (I.rest input.old) (I.rest input.new)) }
+    ensures cause { IfErr result (IsReadCause (I.rest input.old) (I.rest input.new) (I.faults input.old) (I.faults input.new)) }
+    ensures count { I.faults input.old ≤ I.faults input.new }
+{
+    let bytes = match read_all(alloc, input, MOST_BYTES) {
+        Ok(bytes) => bytes,
+        Err(InputErr::TooLarge) => return Err(Status::TooLarge),
+        Err(InputErr::Failed) => return Err(Status::ReadFault),
+        Err(InputErr::NoMemory) => return Err(Status::NoMemory),
+    };
+    match script::read(alloc, bytes.items()) {
+        Ok(commands) => Ok(commands),
+        Err(ScriptFault::Bad { line }) => Err(Status::Script {
+            line,
+            kind: FaultKind::Command,
+        }),
+        Err(ScriptFault::NoMemory) => Err(Status::NoMemory),
+    }
+}
+
+/// Writes the text of a run, and answers the status that this gives.
+fn write_text<O: Sink>(alloc: Global, ran: &Ran, output: &mut O) -> Status
+    ensures ok { result ≡ Status.Ok → Takes (O.written output.old) (O.written output.new) (plain_text_of ran.now) }
+    ensures cause { result ≡ Status.WriteFault → Rose (O.faults output.old) (O.faults output.new) }
+    ensures late { is_early result ≡ false }
+    ensures count { O.faults output.old ≤ O.faults output.new }
+{
+    let Ok(text) = text_of(alloc, ran) else {
+        return Status::NoMemory;
+    };
+    match write_all(output, text.items()) {
+        Ok(()) => Status::Ok,
+        Err(SinkErr::Failed) => Status::WriteFault,
+        Err(SinkErr::NoMemory) => Status::NoMemory,
+    }
+}
+
+/// Runs a script, and writes the text of the run.
+fn run_and_write<O: Sink>(alloc: Global, commands: &List<Command>, output: &mut O) -> Ran
+    requires { length commands.now ≤ 1000 }
+    ensures ok { result.status ≡ Status.Ok → IsRun commands.now result × Takes (O.written output.old) (O.written output.new) (plain_text_of result) }
+    ensures cause { result.status ≡ Status.WriteFault → Rose (O.faults output.old) (O.faults output.new) }
+    ensures late { is_early result.status ≡ false }
+    ensures count { O.faults output.old ≤ O.faults output.new }
+{
+    match runner::run(alloc, commands) {
+        Ok(mut ran) => {
+            ran.status = write_text(alloc, &ran, output);
+            ran
+        }
+        Err(NoMemory) => unrun(alloc, Status::NoMemory),
+    }
+}
+
+/// Reads a script from `input`, runs it on two new namenodes, one command after the other, and writes the text
+/// of the run to `output`. `words` are the words of the command line, without the program's own name.
+pub fn serial<I: Source, O: Sink>(
+    alloc: Global,
+    words: &List<NameText>,
+    input: &mut I,
+    output: &mut O,
+) -> Ran
+    // With status Ok the bytes read, to the end of the input, mean a script; the answer is a run of it in turn;
+    // and what was written is the text of that run.
+    ensures ok { result.status ≡ Status.Ok → IsDone (I.rest input.old) (I.rest input.new) (O.written output.old) (O.written output.new) result }
+
+    // The causes of the other statuses. Want of memory is free.
+    ensures usage { (result.status ≡ Status.Usage) ↔ (is_plain_serial words.now ≡ false) }
+    ensures script { is_script_fault result.status ≡ true → IsNoScript (I.rest input.old) (I.rest input.new) }
+    ensures too_large { result.status ≡ Status.TooLarge → IsTooLarge (I.rest input.old) (I.rest input.new) }
+    ensures read_fault { result.status ≡ Status.ReadFault → Rose (I.faults input.old) (I.faults input.new) }
+    ensures write_fault { result.status ≡ Status.WriteFault → Rose (O.faults output.old) (O.faults output.new) }
+
+    // A fault of writing comes only behind a script.
+    ensures written_scripts { result.status ≡ Status.WriteFault → (commands : List Command) × IsScriptRead (I.rest input.old) (I.rest input.new) commands }
+
+    // With the early statuses nothing was written, and nothing was run.
+    ensures unwritten { is_early result.status ≡ true → output.new ≡ output.old }
+    ensures unrun { is_early result.status ≡ true → result ≡ not_run result.status }
+
+    // Where the words are right, and the input is a script within its limit, and neither end fails, all is done.
+    ensures complete { (rest : List ℕ) (commands : List Command) → is_plain_serial words.now ≡ true →
+        I.rest input.old ≡ Some rest → length rest ≤ most_bytes → script_of rest ≡ Some commands →
+        (Rose (I.faults input.old) (I.faults input.new) → ⊥) → (Rose (O.faults output.old) (O.faults output.new) → ⊥) →
+        is_ok_or_no_memory result.status ≡ true }
+
+    ensures reads { I.faults input.old ≤ I.faults input.new }
+    ensures writes { O.faults output.old ≤ O.faults output.new }
+{
+    if !is_serial(words.items()) {
+        return unrun(alloc, Status::Usage);
+    }
+    match read_script(alloc, input) {
+        Ok(commands) => run_and_write(alloc, &commands, output),
+        Err(status) => unrun(alloc, status),
+    }
+}

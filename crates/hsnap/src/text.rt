@@ -1,0 +1,273 @@
+//! The text of a run.
+ghost use Rattle.std.specs.Prelude.{◌≡◌, ◌++◌, ℕ, List, IfOk, OnOk, string_bytes, map};
+ghost use Rattle.std.specs.List.{flat_map};
+ghost use Rattle.percent_encoding.specs.Iter.{encoded_text};
+ghost use Rattle.hsnap.specs.TextParts.{ended, indented, escaped, mode_text};
+ghost use Rattle.hsnap.specs.CallText.{call_text};
+ghost use Rattle.hsnap.specs.Text.{side_word, kind_word, more_or_end, reply_text, item_text, further_lines, reply_line, answered_lines, item_lines, heading, log_lines, marked, entry_line, journal_lines, node_name, dir_line, file_line, node_line, tree_lines, text_of};
+
+use crate::ran::{ClientLog, LogItem, LogWhat, Ran, Section};
+use hs_types::{
+    Answered, Call, Entry, EntryKind, Item, List, ListCursor, Mode, Name, NoMemory, Reply, Side,
+    TreeLine,
+};
+use percent_encoding::{AsciiSet, CONTROLS, PercentEncode, ascii_set, utf8_percent_encode};
+use std::alloc::Global;
+
+/// The ASCII bytes of a text that are escaped: controls, space, `#` and `%`.
+const ESCAPED: AsciiSet = ascii_set!(CONTROLS.add(b' ').add(b'#').add(b'%'));
+
+/// The text of a run: what each section did, both journals, and both live trees.
+pub fn text_of(alloc: Global, ran: &Ran) -> Result<List<u8>, NoMemory>
+    ensures { IfOk result (λ text. text ≡ text_of ran.now) }
+{
+    let mut out = String::new(alloc);
+    write_logs(&mut out, ran.logs.items())?;
+    write_journal(&mut out, Side::Source, ran.source.items())?;
+    write_journal(&mut out, Side::Target, ran.target.items())?;
+    write_tree(&mut out, Side::Source, ran.source_end.tree.items())?;
+    write_tree(&mut out, Side::Target, ran.target_end.tree.items())?;
+    Ok(List::of(out.into_bytes()))
+}
+
+fn write_logs(out: &mut String, logs: &[ClientLog]) -> Result<(), NoMemory>
+    ensures { OnOk result (string_bytes out.new ≡ string_bytes out.old ++ flat_map ended (flat_map log_lines logs.now)) }
+{
+    for log in logs {
+        write_log(out, log)?;
+    }
+    Ok(())
+}
+
+fn write_log(out: &mut String, log: &ClientLog) -> Result<(), NoMemory>
+    ensures { OnOk result (string_bytes out.new ≡ string_bytes out.old ++ flat_map ended (log_lines log.now)) }
+{
+    write_heading(out, log.section)?;
+    for item in log.items.items() {
+        write_item(out, item)?;
+    }
+    Ok(())
+}
+
+fn write_heading(out: &mut String, section: Section) -> Result<(), NoMemory>
+    ensures { OnOk result (string_bytes out.new ≡ string_bytes out.old ++ ended (heading section)) }
+{
+    match section {
+        Section::Setup => out.push_str("setup\n")?,
+        Section::Client(number) => writeln!(out, "client {number}")?,
+        Section::Finish => out.push_str("finish\n")?,
+    }
+    Ok(())
+}
+
+fn write_item(out: &mut String, item: &LogItem) -> Result<(), NoMemory>
+    ensures { OnOk result (string_bytes out.new ≡ string_bytes out.old ++ flat_map ended (item_lines item.now)) }
+{
+    match &item.what {
+        LogWhat::Replies { side, list } => write_replies(out, item.line, *side, list.items()),
+    }
+}
+
+fn write_replies(out: &mut String, line: u32, side: Side, list: &[Answered]) -> Result<(), NoMemory>
+    ensures { OnOk result (string_bytes out.new ≡ string_bytes out.old ++ flat_map ended (flat_map (answered_lines line side) list.now)) }
+{
+    for answered in list {
+        write_answered(out, line, side, answered)?;
+    }
+    Ok(())
+}
+
+/// A reply, and below it what it lists.
+fn write_answered(
+    out: &mut String,
+    line: u32,
+    side: Side,
+    answered: &Answered,
+) -> Result<(), NoMemory>
+    ensures { OnOk result (string_bytes out.new ≡ string_bytes out.old ++ flat_map ended (answered_lines line side answered.now)) }
+{
+    write_reply_line(out, line, side, answered)?;
+    write_further_lines(out, &answered.reply)
+}
+
+fn write_reply_line(
+    out: &mut String,
+    line: u32,
+    side: Side,
+    answered: &Answered,
+) -> Result<(), NoMemory>
+    ensures { OnOk result (string_bytes out.new ≡ string_bytes out.old ++ ended (reply_line line side answered.now)) }
+{
+    let side = side_word(side);
+    write!(out, "{line} {side}@{} ", answered.position)?;
+    write_reply(out, &answered.reply)
+}
+
+fn write_reply(out: &mut String, reply: &Reply) -> Result<(), NoMemory>
+    ensures { OnOk result (string_bytes out.new ≡ string_bytes out.old ++ ended (reply_text reply.now)) }
+{
+    match reply {
+        Reply::Made { id } => writeln!(out, "made {}", id.0)?,
+        Reply::Page { items, next } => {
+            writeln!(out, "page {} {}", items.len(), more_or_end(next))?
+        }
+        Reply::Refused(why) => writeln!(out, "refused {} {}", why.number(), why.name())?,
+        Reply::NoMemory => out.push_str("no memory\n")?,
+    }
+    Ok(())
+}
+
+fn write_further_lines(out: &mut String, reply: &Reply) -> Result<(), NoMemory>
+    ensures { OnOk result (string_bytes out.new ≡ string_bytes out.old ++ flat_map ended (map indented (further_lines reply.now))) }
+{
+    match reply {
+        Reply::Page { items, .. } => write_page_items(out, items.items()),
+        Reply::Made { .. } | Reply::Refused(_) | Reply::NoMemory => Ok(()),
+    }
+}
+
+fn write_page_items(out: &mut String, items: &[Item]) -> Result<(), NoMemory>
+    ensures { OnOk result (string_bytes out.new ≡ string_bytes out.old ++ flat_map ended (map indented (map item_text items.now))) }
+{
+    for item in items {
+        write_page_item(out, item)?;
+    }
+    Ok(())
+}
+
+fn write_page_item(out: &mut String, item: &Item) -> Result<(), NoMemory>
+    ensures { OnOk result (string_bytes out.new ≡ string_bytes out.old ++ ended (indented (item_text item.now))) }
+{
+    let kind = kind_word(item.is_dir);
+    let name = escaped(item.name.text());
+    writeln!(out, "  {kind} {} {name}", item.id.0)?;
+    Ok(())
+}
+
+fn write_journal(out: &mut String, side: Side, entries: &[Entry]) -> Result<(), NoMemory>
+    ensures { OnOk result (string_bytes out.new ≡ string_bytes out.old ++ flat_map ended (journal_lines side entries.now)) }
+{
+    writeln!(out, "journal {} {}", side_word(side), entries.len())?;
+    for (index, entry) in entries.iter().enumerate() {
+        write_entry(out, index, entry)?;
+    }
+    Ok(())
+}
+
+fn write_entry(out: &mut String, index: usize, entry: &Entry) -> Result<(), NoMemory>
+    ensures { OnOk result (string_bytes out.new ≡ string_bytes out.old ++ ended (entry_line index entry.now)) }
+{
+    let mark = mark(entry.kind);
+    write!(out, "{index} {}.{} {mark}", entry.caller.0, entry.seq)?;
+    write_call(out, &entry.call)
+}
+
+/// The text of a call ends the line that it stands in.
+fn write_call(out: &mut String, call: &Call) -> Result<(), NoMemory>
+    ensures { OnOk result (string_bytes out.new ≡ string_bytes out.old ++ ended (call_text call.now)) }
+{
+    match call {
+        Call::Mkdir { path } => writeln!(out, "mkdir {}", escaped(path.text()))?,
+        Call::List { .. } => out.push_str("list\n")?,
+    }
+    Ok(())
+}
+
+fn write_tree(out: &mut String, side: Side, nodes: &[TreeLine]) -> Result<(), NoMemory>
+    ensures { OnOk result (string_bytes out.new ≡ string_bytes out.old ++ flat_map ended (tree_lines side nodes.now)) }
+{
+    writeln!(out, "tree {} {}", side_word(side), nodes.len())?;
+    for node in nodes {
+        write_node(out, node)?;
+    }
+    Ok(())
+}
+
+fn write_node(out: &mut String, node: &TreeLine) -> Result<(), NoMemory>
+    ensures { OnOk result (string_bytes out.new ≡ string_bytes out.old ++ ended (node_line node.now)) }
+{
+    if node.is_dir {
+        write_dir(out, node)
+    } else {
+        write_file(out, node)
+    }
+}
+
+fn write_dir(out: &mut String, node: &TreeLine) -> Result<(), NoMemory>
+    ensures { OnOk result (string_bytes out.new ≡ string_bytes out.old ++ ended (dir_line node.now)) }
+{
+    write!(out, "{} dir {} ", node.depth, node.id.0)?;
+    write_mode(out, node.mode)?;
+    writeln!(out, " {} {}", node.stamp, node_name(&node.name))?;
+    Ok(())
+}
+
+fn write_file(out: &mut String, node: &TreeLine) -> Result<(), NoMemory>
+    ensures { OnOk result (string_bytes out.new ≡ string_bytes out.old ++ ended (file_line node.now)) }
+{
+    write!(out, "{} file {} ", node.depth, node.id.0)?;
+    write_mode(out, node.mode)?;
+    let name = node_name(&node.name);
+    writeln!(out, " {} {} {name}", node.stamp, node.size)?;
+    Ok(())
+}
+
+fn write_mode(out: &mut String, mode: Mode) -> Result<(), NoMemory>
+    ensures { OnOk result (string_bytes out.new ≡ string_bytes out.old ++ mode_text mode) }
+{
+    write!(out, "{:04o}", mode.bits())?;
+    Ok(())
+}
+
+fn side_word(side: Side) -> &'static str
+    ensures { result.now ≡ side_word side }
+{
+    match side {
+        Side::Source => "s",
+        Side::Target => "t",
+    }
+}
+
+fn kind_word(is_dir: bool) -> &'static str
+    ensures { result.now ≡ kind_word is_dir }
+{
+    if is_dir { "dir" } else { "file" }
+}
+
+fn more_or_end(next: &Option<ListCursor>) -> &'static str
+    ensures { result.now ≡ more_or_end next.now }
+{
+    match next {
+        Some(_) => "more",
+        None => "end",
+    }
+}
+
+/// What stands before the call of an entry, with a space behind it: nothing before an accepted one.
+fn mark(kind: EntryKind) -> &'static str
+    ensures { (call : List ℕ) → result.now ++ call ≡ marked kind call }
+{
+    match kind {
+        EntryKind::Accepted => "",
+        EntryKind::Faulted => "fault ",
+    }
+}
+
+/// The name of a node. A slash isn't escaped.
+fn node_name(name: &Option<Name>) -> PercentEncode<'_>
+    ensures { encoded_text result ≡ node_name name.now }
+{
+    match name {
+        Some(name) => escaped(name.text()),
+        None => escaped("/"),
+    }
+}
+
+fn escaped(text: &str) -> PercentEncode<'_>
+    ensures { encoded_text result ≡ escaped text.now }
+{
+    utf8_percent_encode(text, ESCAPED)
+}
+
+#[cfg(test)]
+mod tests;

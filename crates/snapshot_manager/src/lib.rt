@@ -1,0 +1,14 @@
+//! The snapshottable directories of a namenode, their snapshots by name in order of making, and the ids of snapshots.
+#![tactic(auto)]
+
+mod fault;
+mod owners;
+mod places;
+mod snaps;
+mod table;
+
+pub use fault::{AddFault, RenameFault};
+pub use snaps::{SNAPSHOT_LIMIT, Snaps};
+
+#[cfg(test)]
+mod tests;

@@ -1,0 +1,8 @@
+pub mod Prefixes
+mod Views
+mod Turns
+mod Meetings
+mod Dealing
+mod Finishing
+pub mod Rows
+pub mod Numbers

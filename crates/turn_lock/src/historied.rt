@@ -1,0 +1,33 @@
+//! What a lock asks of its value, and of the work that is done on it.
+ghost use Rattle.std.specs.Prelude.{◌≡◌, ℕ, List, length};
+ghost use Rattle.hs_types.specs.declared.call.Entry.{Entry};
+
+/// A value that carries a history.
+pub trait Historied: Drop {
+    /// The entries that it stands for, the oldest first.
+    ghost history: { Self → List Entry };
+
+    /// No work changes it.
+    ghost limit: { Self → ℕ };
+
+    /// Which histories are lawful under which limit.
+    ghost lawful: { ℕ → List Entry → Type 0 };
+
+    /// How long the history is. It takes no memory.
+    fn length(&self) -> u64
+        ensures counts { result ≡ length (history self.now) }
+        ensures within { lawful (limit self.now) (history self.now) };
+}
+
+/// What is done on a value while nobody else has it.
+pub trait Work<T> {
+    /// When it may be called.
+    ghost allows: { Self → T → Type 0 };
+
+    /// The worker and the value before the call, and the two after it.
+    ghost does: { Self → T → Self → T → Type 0 };
+
+    fn work(&mut self, value: &mut T)
+        requires { allows self.old value.old }
+        ensures { does self.old value.old self.new value.new };
+}
