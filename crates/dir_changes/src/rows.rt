@@ -376,3 +376,6 @@ impl DirRows {
         }
     }
 }
+
+#[cfg(test)]
+mod tests;
