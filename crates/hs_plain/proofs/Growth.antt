@@ -25,9 +25,3 @@ module _ {K X : Type 0} (R : K → K → Ordering) (g : K × X → K × X) (same
         | Greater ↦ λ o n r. ap (λ n. insert (g e ∷ map g es) n (k, v)) {x = 1 + prefix_len after es} {y = suc (prefix_len after es)} (omega arith) ∙ ap (λ (xs : List (K × X)). g e ∷ xs) (r n)
       ] refl none (put-map es) ∙ ap (λ (q : K). by_order (R k q) ((k, v) ∷ g e ∷ map g es) (((g e).0, v) ∷ map g es) (g e ∷ put R k v (map g es))) (sym (same e))
 
-restamp_keeps : {B : Type 0} (path : Names) (tick : ℕ) (place : Names × Node B) → (restamp path tick place).0 ≡ place.0
-restamp_keeps path tick place = elim (same_path path place.0) as (λ b. (cond b (place.0, record place.1 { stamp = tick }) place).0 ≡ place.0) [ true ↦ refl | false ↦ refl ]
-
-pub put_stamped : {B : Type 0} (tree : Tree B) (path : Names) (node : Node B) (above : Names) (tick : ℕ) → node_at tree path ≡ None →
-    insert (stamped tree above tick) (prefix_len (is_after path) tree) (path, node) ≡ put path_cmp path node (stamped tree above tick)
-put_stamped tree path node above tick none = put-map path_cmp (restamp above tick) (restamp_keeps above tick) path node tree none

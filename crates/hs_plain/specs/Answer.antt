@@ -1,26 +1,28 @@
--- What a call is answered, what an entry of the journal changes, and the state that a journal stands for.
+-- What a call is answered.
 use Rattle.std.specs.Prelude.{◌≡◌, ℕ, ◌+◌, ◌-◌, slice_get, Bool, true, false, not, ◌&&◌, nat_le, nat_lt, if◌then◌else◌, List, [], ◌∷◌, length, take, Option, Some, None, Ok, Err, is_some}
 use Rattle.std.specs.List.{filter}
 use Rattle.std.specs.Ordering.{nat_cmp, is_lt}
 use Rattle.std.specs.Cmp.Lexicographic.{slice_cmp}
-use Rattle.std.specs.FinMap.Entries.{put}
 use Rattle.hs_types.specs.Names.{Names}
 use Rattle.hs_types.specs.Paths.{path_of}
+use Rattle.hs_types.specs.declared.ids.InodeId.{InodeId}
 use Rattle.hs_types.specs.declared.call.Call.{Call}
 use Rattle.hs_types.specs.declared.call.Call.TheVariants as calls
 use Rattle.hs_types.specs.declared.call.Reply.{Reply}
-use Rattle.hs_types.specs.declared.call.Reply.TheVariants.{Made, Page, Refused, NoMemory}
-use Rattle.hs_types.specs.declared.call.Refusal.TheVariants.{Exists}
+use Rattle.hs_types.specs.declared.call.Reply.TheVariants as replies
+use Rattle.hs_types.specs.declared.call.Refusal.TheVariants.{NotFound, NotFile, Exists, IsRoot, NotEmpty, IntoItself}
 use Rattle.hs_types.specs.declared.call.Item.{Item}
 use Rattle.hs_types.specs.declared.call.ListCursor.{ListCursor}
 use Rattle.hs_types.specs.declared.call.Place.{Place}
-use Rattle.hs_types.specs.declared.call.EntryKind.{EntryKind}
-use Rattle.hs_types.specs.declared.call.EntryKind.TheVariants.{Accepted, Faulted}
-use Rattle.hs_types.specs.declared.call.Entry.{Entry}
+use Rattle.hs_types.specs.declared.call.Place.TheVariants as places
+use Rattle.hs_plain.specs.declared.state.Node.{Node}
 use Rattle.hs_plain.specs.declared.state.State.{State}
-use Rattle.hs_plain.specs.Asked.{Asked, ◌>>=◌}
-use Rattle.hs_plain.specs.Tree.{path_cmp, node_at, walks_above, parent_of, stamped}
-use Rattle.hs_plain.specs.State.{start, new_dir, resolve, items_at, plain_of}
+use Rattle.hs_plain.specs.Asked.{Asked, ◌>>=◌, refuse_if, both}
+use Rattle.hs_plain.specs.Files.{Files, plain_files}
+use Rattle.hs_plain.specs.Tree.{Tree, node_at, walks_above, walk, is_dir, child_count, size_of, is_root_path, is_above}
+use Rattle.hs_plain.specs.State.{resolve, place_of, member_with, snapshots_of, items_at, plain_of}
+
+-- ---- pages
 
 abbrev pub is_behind : List ℕ → Item → Bool
 is_behind name item = is_lt (slice_cmp nat_cmp name item.name)
@@ -44,15 +46,13 @@ next_cursor place items size = if nat_le (length items) size then None else Some
 
 -- the first items of what is left
 abbrev pub first_page : Place → List Item → ℕ → Reply
-first_page place items size = Page (take size items) (next_cursor place items size)
+first_page place items size = replies.Page (take size items) (next_cursor place items size)
 
 -- the items with a greater name, as many as the page holds
 abbrev pub page_of : Place → List Item → Option (List ℕ) → ℕ → Reply
 page_of place items after size = first_page place (items_behind after items) size
 
-abbrev pub told : Asked Reply → Reply
-told (Ok reply) = reply
-told (Err why) = Refused why
+-- ---- modifying calls: what is asked for, or the first refusal that holds
 
 -- the live path that a modifying call names, or why it is none
 abbrev pub live_path : List ℕ → Asked Names
@@ -60,14 +60,64 @@ live_path text = do
   path ← path_of text
   plain_of path
 
-abbrev pub made_reply : {B : Type 0} → State B → Reply
-made_reply state = Made (record { 0 = state.next_inode })
-
 -- a new directory: its parent is there, and its path meets no node
-abbrev pub mkdir_reply : {B : Type 0} → State B → Names → Asked Reply
-mkdir_reply state path = do
+abbrev pub mkdir_at : {B : Type 0} → State B → List ℕ → Asked Names
+mkdir_at state text = do
+  path ← live_path text
   above ← walks_above state.tree path
-  if is_some (node_at state.tree path) then Err Exists else Ok (made_reply state)
+  free ← refuse_if (is_some (node_at state.tree path)) Exists
+  Ok path
+
+-- a new file's path meets no node, or with `over` a file
+abbrev pub takes_place_of : {B : Type 0} → Bool → Option (Node B) → Asked (Unit {0})
+takes_place_of over None = Ok tt
+takes_place_of false (Some node) = Err Exists
+takes_place_of true (Some node) = refuse_if (is_dir node) NotFile
+
+-- a new file: its parent is there, and its path is free, or with `over` a file's
+abbrev pub create_at : {B : Type 0} → State B → List ℕ → Bool → Asked Names
+create_at state text over = do
+  path ← live_path text
+  above ← walks_above state.tree path
+  free ← takes_place_of over (node_at state.tree path)
+  Ok path
+
+-- whether a directory with children is to be deleted without them
+abbrev pub spares_children : {B : Type 0} → Tree B → Names → Bool → Bool
+spares_children tree path recursive = not recursive && nat_lt 0 (child_count tree path)
+
+-- a node to be deleted: it is there, it isn't the root, and it has children only where they go too
+abbrev pub delete_at : {B : Type 0} → State B → List ℕ → Bool → Asked Names
+delete_at state text recursive = do
+  path ← live_path text
+  node ← walk state.tree path
+  below ← refuse_if (is_root_path path) IsRoot
+  alone ← refuse_if (spares_children state.tree path recursive) NotEmpty
+  Ok path
+
+-- a move: the node is there, the new parent too, the new path meets no node, and it isn't below the node itself
+abbrev pub may_move : {B : Type 0} → Tree B → Names → Names → Asked (Unit {0})
+may_move tree old new = do
+  walked ← both (walk tree old) (walks_above tree new)
+  free ← refuse_if (is_some (node_at tree new)) Exists
+  below ← refuse_if (is_root_path old) IsRoot
+  refuse_if (is_above old new) IntoItself
+
+-- a node and its new place, number by number of the tests
+abbrev pub rename_at : {B : Type 0} → State B → List ℕ → List ℕ → Asked (Names × Names)
+rename_at state old new = do
+  paths ← both (live_path old) (live_path new)
+  apart ← may_move state.tree paths.0 paths.1
+  Ok paths
+
+-- a node that gets a mode: it is there
+abbrev pub set_mode_at : {B : Type 0} → State B → List ℕ → Asked Names
+set_mode_at state text = do
+  path ← live_path text
+  node ← walk state.tree path
+  Ok path
+
+-- ---- reading calls
 
 -- the first page of a directory, or of the list of its snapshots
 abbrev pub list_reply : {B : Type 0} → State B → List ℕ → ℕ → Asked Reply
@@ -77,19 +127,71 @@ list_reply state text size = do
   items ← items_at state place
   Ok (page_of place items None size)
 
--- the first refusal that holds, in the order of their numbers, or else the Ok reply
-abbrev pub asked : {B : Type 0} → State B → Call → Asked Reply
-asked state (calls.Mkdir path) = do
-  base ← live_path path
-  mkdir_reply state base
-asked state (calls.List path size) = list_reply state path size
+-- what a node is, with the bytes of a file or the children of a directory
+abbrev pub node_stat : {B : Type 0} → Files B → Tree B → Option (Names × Node B) → Asked Reply
+node_stat files tree None = Err NotFound
+node_stat files tree (Some place) = Ok (replies.Stat place.1.id (is_dir place.1) place.1.mode place.1.stamp (size_of files.size tree place.0 place.1.body))
 
-abbrev pub answer : {B : Type 0} → State B → Call → Reply
-answer state call = told (asked state call)
+-- a list of snapshots has the fields of its directory, and the number of its snapshots
+abbrev pub list_stat : {B : Type 0} → ℕ → Option (Names × Node B) → Asked Reply
+list_stat snapshots None = Err NotFound
+list_stat snapshots (Some place) = Ok (replies.Stat place.1.id true place.1.mode place.1.stamp snapshots)
+
+abbrev pub stat_at : {B : Type 0} → Files B → State B → Place → Asked Reply
+stat_at files state (places.Live id) = node_stat files state.tree (place_of state.tree id)
+stat_at files state (places.Frozen id snapshot) = do
+  member ← member_with state.members snapshot
+  node_stat files member.tree (place_of member.tree id)
+stat_at files state (places.SnapshotsOf dir) = list_stat (snapshots_of state.members dir) (place_of state.tree dir)
+
+-- what stands at a path
+abbrev pub stat_reply : {B : Type 0} → Files B → State B → List ℕ → Asked Reply
+stat_reply files state text = do
+  path ← path_of text
+  place ← resolve state path
+  stat_at files state place
+
+-- ---- all calls
+
+-- a new node gets the next id
+abbrev pub made_reply : {B : Type 0} → State B → Reply
+made_reply state = replies.Made (record { 0 = state.next_inode })
+
+-- the reply to what was asked for
+abbrev pub replied : {X : Type 0} → Reply → Asked X → Asked Reply
+replied reply (Ok x) = Ok reply
+replied reply (Err why) = Err why
+
+-- the first refusal that holds, in the order of their numbers, or else the Ok reply
+abbrev pub asked : {B : Type 0} → Files B → State B → Call → Asked Reply
+asked files state (calls.Mkdir path) = replied (made_reply state) (mkdir_at state path)
+asked files state (calls.Create path over) = replied (made_reply state) (create_at state path over)
+asked files state (calls.Delete path recursive) = replied replies.Done (delete_at state path recursive)
+asked files state (calls.Rename old new) = replied replies.Done (rename_at state old new)
+asked files state (calls.SetMode path mode) = replied replies.Done (set_mode_at state path)
+asked files state (calls.Stat path) = stat_reply files state path
+asked files state (calls.List path size) = list_reply state path size
+
+abbrev pub told : Asked Reply → Reply
+told (Ok reply) = reply
+told (Err why) = replies.Refused why
+
+-- the answer in a state whose files are kept in some way
+abbrev pub answer_by : {B : Type 0} → Files B → State B → Call → Reply
+answer_by files state call = told (asked files state call)
+
+-- the answer of the plain machine
+abbrev pub answer : State (List ℕ) → Call → Reply
+answer state call = answer_by plain_files state call
 
 -- whether a call may change the state
 abbrev pub is_modifying : Call → Bool
 is_modifying (calls.Mkdir path) = true
+is_modifying (calls.Create path over) = true
+is_modifying (calls.Delete path recursive) = true
+is_modifying (calls.Rename old new) = true
+is_modifying (calls.SetMode path mode) = true
+is_modifying (calls.Stat path) = false
 is_modifying (calls.List path size) = false
 
 -- whether a call is made alone: it changes the state
@@ -100,81 +202,15 @@ is_exclusive call = is_modifying call
 abbrev pub is_shared : Call → Bool
 is_shared call = not (is_exclusive call)
 
--- whether a reply says that the call was done
-abbrev pub is_ok_reply : Reply → Bool
-is_ok_reply (Made id) = true
-is_ok_reply (Page items next) = true
-is_ok_reply (Refused why) = false
-is_ok_reply NoMemory = false
-
-abbrev pub is_accepted : EntryKind → Bool
-is_accepted Accepted = true
-is_accepted Faulted = false
-
--- one empty directory more; the child list of its parent has changed
-abbrev pub made_dir : {B : Type 0} → State B → Names → State B
-made_dir state path = record state {
-  tree = put path_cmp path (new_dir state.next_inode (state.tick + 1)) (stamped state.tree (parent_of path) (state.tick + 1));
-  next_inode = state.next_inode + 1;
-}
-
-abbrev pub at_path : {B : Type 0} → (State B → Names → State B) → State B → Asked Names → State B
-at_path change state (Ok path) = change state path
-at_path change state (Err why) = state
-
--- what an accepted call changes
-abbrev pub change : {B : Type 0} → State B → Call → State B
-change state (calls.Mkdir path) = at_path made_dir state (live_path path)
-change state (calls.List path size) = state
-
--- a call that was answered with an Ok reply is done, and else nothing changes
-abbrev pub done : {B : Type 0} → State B → Call → State B
-done state call = if is_ok_reply (answer state call) then change state call else state
-
--- whether an entry may change more than the tick
-abbrev pub takes_effect : {B : Type 0} → State B → Entry → Bool
-takes_effect state entry = is_accepted entry.kind && is_modifying entry.call
-
-abbrev pub changed : {B : Type 0} → State B → Entry → State B
-changed state entry = if takes_effect state entry then done state entry.call else state
-
-abbrev pub ticked : {B : Type 0} → State B → State B
-ticked state = record state { tick = state.tick + 1 }
-
--- the state after an entry: each entry raises the tick by 1
-abbrev pub after : {B : Type 0} → State B → Entry → State B
-after state entry = ticked (changed state entry)
-
-abbrev pub replay_from : {B : Type 0} → State B → List Entry → State B
-replay_from state [] = state
-replay_from state (entry ∷ entries) = replay_from (after state entry) entries
-
--- the state that a journal stands for
-abbrev pub replay : {B : Type 0} → List Entry → State B
-replay entries = replay_from start entries
-
 -- a call that may meet a fault of the store
 abbrev pub uses_store : Call → Bool
-uses_store (calls.Mkdir path) = false
-uses_store (calls.List path size) = false
+uses_store call = false
 
--- an accepted entry is of a modifying call, a faulted one of a call that uses the store
-abbrev pub fits_kind : EntryKind → Call → Bool
-fits_kind Accepted call = is_modifying call
-fits_kind Faulted call = uses_store call
-
--- whether an entry may stand behind the entries that led to a state
-abbrev pub may_follow : {B : Type 0} → State B → Entry → Bool
-may_follow state entry = fits_kind entry.kind entry.call && is_ok_reply (answer state entry.call)
-
-abbrev pub proper_from : {B : Type 0} → State B → List Entry → Bool
-proper_from state [] = true
-proper_from state (entry ∷ entries) = may_follow state entry && proper_from (after state entry) entries
-
--- the plain state, in which a file holds its bytes, after the entries of a journal
-abbrev pub plain_after : List Entry → State (List ℕ)
-plain_after entries = replay entries
-
--- a journal that a namenode may have
-abbrev pub is_proper : List Entry → Bool
-is_proper entries = proper_from (start {B = List ℕ}) entries
+-- whether a reply says that the call was done
+abbrev pub is_ok_reply : Reply → Bool
+is_ok_reply (replies.Made id) = true
+is_ok_reply replies.Done = true
+is_ok_reply (replies.Stat id is_dir mode stamp size) = true
+is_ok_reply (replies.Page items next) = true
+is_ok_reply (replies.Refused why) = false
+is_ok_reply replies.NoMemory = false

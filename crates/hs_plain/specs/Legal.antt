@@ -4,11 +4,12 @@ use Rattle.std.specs.List.{filter, filter_map, AllByRecursion}
 use Rattle.hs_types.specs.declared.ids.CallerId.{CallerId}
 use Rattle.hs_types.specs.declared.call.Call.{Call}
 use Rattle.hs_types.specs.declared.call.Reply.{Reply}
-use Rattle.hs_types.specs.declared.call.Reply.TheVariants.{Made, Page, Refused, NoMemory}
+use Rattle.hs_types.specs.declared.call.Reply.TheVariants.{Made, Done, Stat, Page, Refused, NoMemory}
 use Rattle.hs_types.specs.declared.call.EntryKind.TheVariants.{Accepted}
 use Rattle.hs_types.specs.declared.call.Entry.{Entry}
 use Rattle.hs_types.specs.declared.call.Answered.{Answered}
-use Rattle.hs_plain.specs.Answer.{answer, is_modifying, is_ok_reply, plain_after}
+use Rattle.hs_plain.specs.Answer.{answer, is_modifying, is_ok_reply}
+use Rattle.hs_plain.specs.Replay.{plain_after}
 
 -- a call with its number among its caller's calls, and what was answered
 pub record Said : Type 0 where
@@ -19,6 +20,8 @@ pub record Said : Type 0 where
 -- a reply of the plain machine; the others change nothing but the tick
 abbrev pub is_plain_reply : Reply → Bool
 is_plain_reply (Made id) = true
+is_plain_reply Done = true
+is_plain_reply (Stat id is_dir mode stamp size) = true
 is_plain_reply (Page items next) = true
 is_plain_reply (Refused why) = true
 is_plain_reply NoMemory = false

@@ -1,8 +1,11 @@
 pub mod Asked
+pub mod Files
 pub mod Tree
 pub mod State
 pub mod Valid
 pub mod Answer
+pub mod Change
+pub mod Replay
 pub mod Legal
 pub mod Faults
 pub mod Viewed

@@ -7,12 +7,7 @@ use Rattle.hs_plain.specs.declared.state.Node.{Node}
 use Rattle.hs_plain.specs.declared.state.Body.{Body}
 use Rattle.hs_plain.specs.declared.state.Body.TheVariants.{File, Dir}
 use Rattle.hs_plain.specs.declared.state.State.{State}
-use Rattle.hs_plain.specs.Tree.{Tree, is_dir, listing}
-
--- bytes of a file, children of a directory
-abbrev pub size_of : {B : Type 0} → (B → ℕ) → Tree B → Names → Body B → ℕ
-size_of bytes tree path (File file) = bytes file
-size_of bytes tree path Dir = length (listing tree path)
+use Rattle.hs_plain.specs.Tree.{Tree, is_dir, size_of}
 
 -- the name is the last of the path; the root has none
 abbrev pub tree_line : {B : Type 0} → (B → ℕ) → Tree B → Names × Node B → TreeLine

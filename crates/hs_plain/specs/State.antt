@@ -1,5 +1,5 @@
 -- The plain state, and where a path leads in it.
-use Rattle.std.specs.Prelude.{◌≡◌, ℕ, ◌+◌, Bool, true, false, ◌&&◌, ◌==◌, nat_le, bytes_eq, if◌then◌else◌, List, [], ◌∷◌, ◌++◌, map, length, Option, Some, None, Ok, Err}
+use Rattle.std.specs.Prelude.{◌≡◌, ℕ, ◌+◌, Bool, true, false, ◌&&◌, ◌==◌, nat_le, bytes_eq, if◌then◌else◌, List, [], ◌∷◌, ◌++◌, map, length, count_by, Option, Some, None, Ok, Err}
 use Rattle.std.specs.List.{list_any, filter}
 use Rattle.std.specs.Ordering.{nat_cmp, is_gt}
 use Rattle.std.specs.Cmp.Lexicographic.{slice_cmp}
@@ -87,6 +87,10 @@ is_lesser name other = is_gt (slice_cmp nat_cmp name other.name)
 abbrev pub with_item : Item → List Item → List Item
 with_item item [] = item ∷ []
 with_item item (other ∷ items) = if is_lesser item.name other then other ∷ with_item item items else item ∷ other ∷ items
+
+-- how many snapshots a directory has
+abbrev pub snapshots_of : {B : Type 0} → List (Member B) → InodeId → ℕ
+snapshots_of members dir = count_by (λ member. same_inode member.directory dir) members
 
 -- the snapshots of a directory as items, in name order
 abbrev pub snapshot_items : {B : Type 0} → List (Member B) → InodeId → List Item

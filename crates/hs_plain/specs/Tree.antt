@@ -1,10 +1,10 @@
 -- A tree is the list of its places, by rising paths: a finite map from paths to nodes.
-use Rattle.std.specs.Prelude.{◌≡◌, ℕ, ◌+◌, ◌-◌, Bool, true, false, ◌&&◌, ◌==◌, bytes_eq, if◌then◌else◌, List, [], ◌∷◌, ◌++◌, map, length, take, drop, Option, Some, None, Ok, Err, is_some}
+use Rattle.std.specs.Prelude.{◌≡◌, ℕ, ◌+◌, ◌-◌, Bool, true, false, ◌&&◌, ◌==◌, nat_lt, bytes_eq, if◌then◌else◌, List, [], ◌∷◌, ◌++◌, map, length, take, drop, Option, Some, None, Ok, Err, is_some}
 use Rattle.std.specs.List.{list_all, filter_map, starts_with}
 use Rattle.std.specs.Ordering.{nat_cmp, is_gt}
 use Rattle.std.specs.declared.cmp.Ordering.{Ordering}
 use Rattle.std.specs.Cmp.Lexicographic.{slice_cmp, pointwise}
-use Rattle.std.specs.FinMap.Entries.{find, put, is_sorted}
+use Rattle.std.specs.FinMap.Entries.{find}
 use Rattle.hs_types.specs.Names.{Names}
 use Rattle.hs_types.specs.declared.call.Refusal.TheVariants.{NotFound, NotDir}
 use Rattle.hs_types.specs.declared.call.Item.{Item}
@@ -86,12 +86,22 @@ child_item dir place = named_item place.1 (name_below dir place.0)
 abbrev pub listing : {B : Type 0} → Tree B → Names → List Item
 listing tree dir = filter_map (child_item dir) tree
 
+-- how many children a directory has
+abbrev pub child_count : {B : Type 0} → Tree B → Names → ℕ
+child_count tree dir = length (listing tree dir)
+
+-- bytes of a file, children of a directory
+abbrev pub size_of : {B : Type 0} → (B → ℕ) → Tree B → Names → Body B → ℕ
+size_of bytes tree path (File file) = bytes file
+size_of bytes tree path Dir = child_count tree path
+
+abbrev pub is_root_path : Names → Bool
+is_root_path [] = true
+is_root_path (name ∷ names) = false
+
+-- whether a path lies below another
+abbrev pub is_above : Names → Names → Bool
+is_above above path = starts_with bytes_eq path above && nat_lt (length above) (length path)
+
 abbrev pub same_path : Names → Names → Bool
 same_path = pointwise bytes_eq
-
--- the tree with a new stamp of the node at a path
-abbrev pub restamp : {B : Type 0} → Names → ℕ → Names × Node B → Names × Node B
-restamp path tick place = if same_path path place.0 then (place.0, record place.1 { stamp = tick }) else place
-
-abbrev pub stamped : {B : Type 0} → Tree B → Names → ℕ → Tree B
-stamped tree path tick = map (restamp path tick) tree

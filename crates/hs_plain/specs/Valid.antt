@@ -7,8 +7,8 @@ use Rattle.hs_types.specs.declared.ids.InodeId.{InodeId}
 use Rattle.hs_plain.specs.declared.state.Node.{Node}
 use Rattle.hs_plain.specs.declared.state.Member.{Member}
 use Rattle.hs_plain.specs.declared.state.State.{State}
-use Rattle.hs_plain.specs.Tree.{Tree, path_cmp, node_at, is_dir, parent_of}
-use Rattle.hs_plain.specs.State.{same_inode, is_snapshottable, place_of}
+use Rattle.hs_plain.specs.Tree.{Tree, path_cmp, node_at, is_dir, parent_of, is_root_path, is_above}
+use Rattle.hs_plain.specs.State.{same_inode, is_snapshottable, place_of, snapshots_of}
 
 -- ---- trees
 
@@ -36,10 +36,6 @@ all_differ (number ∷ numbers) = not (list_any (λ other. number == other) numb
 -- no id stands twice
 abbrev pub has_each_once : {B : Type 0} → Tree B → Bool
 has_each_once tree = all_differ (map (λ place. place.1.id.0) tree)
-
-abbrev pub is_root_path : Names → Bool
-is_root_path [] = true
-is_root_path (name ∷ names) = false
 
 -- the id 1 stands at the root alone
 abbrev pub has_root_on_top : {B : Type 0} → Tree B → Bool
@@ -71,9 +67,6 @@ path_at (Some place) = Some place.0
 abbrev pub snapshottable_paths : {B : Type 0} → State B → List Names
 snapshottable_paths state = filter_map (λ id. path_at (place_of state.tree id)) state.snapshottable
 
-abbrev pub is_above : Names → Names → Bool
-is_above above path = starts_with bytes_eq path above && nat_lt (length above) (length path)
-
 abbrev pub has_nested : List Names → Bool
 has_nested paths = list_any (λ above. list_any (is_above above) paths) paths
 
@@ -96,8 +89,12 @@ abbrev pub names_differ : {B : Type 0} → List (Member B) → Bool
 names_differ [] = true
 names_differ (member ∷ members) = not (list_any (same_snapshot member) members) && names_differ members
 
-abbrev pub snapshots_of : {B : Type 0} → List (Member B) → InodeId → ℕ
-snapshots_of members dir = count_by (λ member. same_inode member.directory dir) members
+-- ---- orders
+
+-- the paths of the live tree and of each copied tree strictly rise
+pub record IsSorted {B : Type 0} (state : State B) : Type 0 where
+  pub live : is_sorted path_cmp state.tree ≡ true
+  pub copies : list_all (λ member. is_sorted path_cmp member.tree) state.members ≡ true
 
 -- ---- the whole
 
@@ -146,3 +143,11 @@ pub record IsValid {B : Type 0} (state : State B) : Type 0 where
   pub different_names : names_differ state.members ≡ true
   -- and are at most 65,536 (HDFS Snapshots guide)
   pub at_most : list_all (λ member. nat_le (snapshots_of state.members member.directory) 65536) state.members ≡ true
+
+-- ---- without snapshots
+
+-- a valid state as long as no call makes a directory snapshottable
+pub record IsLive {B : Type 0} (state : State B) : Type 0 where
+  pub valid : IsValid state
+  pub none_snapshottable : state.snapshottable ≡ []
+  pub no_snapshots : state.members ≡ []

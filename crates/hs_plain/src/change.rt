@@ -1,13 +1,21 @@
-//! What accepted calls change.
-ghost use Rattle.std.specs.Prelude.{◌≡◌, ◌+◌, ◌<◌, ◌≤◌, ◌^◌, ◌++◌, Ok, Err, IfOk, OnOk, OnErr, MatchResult, Some, None, map, length, take, vec_len, vec_capacity};
-ghost use Rattle.std.specs.List.{prefix_len};
+//! What modifying calls change.
+ghost use Rattle.std.specs.Prelude.{◌≡◌, ◌+◌, ◌<◌, ◌≤◌, ◌^◌, ◌++◌, [], Ok, Err, IfOk, IfErr, OnOk, OnErr, MatchResult, Some, None, true, false, not, map, length, take, drop, vec_len, vec_capacity};
+ghost use Rattle.std.specs.List.{prefix_len, zip};
 ghost use Rattle.std.specs.FinMap.Entries.{put};
-ghost use Rattle.hs_plain.specs.Tree.{path_cmp, node_at as plain_node_at, restamp as plain_restamp, stamped, parent_of as plain_parent_of, is_after};
-ghost use Rattle.hs_plain.specs.Answer.{made_dir as plain_made_dir};
+ghost use Rattle.hs_types.specs.declared.call.Call.TheVariants as calls;
+ghost use Rattle.hs_plain.specs.Faults.{IsFaultOf};
+ghost use Rattle.hs_plain.specs.Tree.{path_cmp, parent_of as plain_parent_of, is_after};
+ghost use Rattle.hs_plain.specs.State.{new_dir, place_of as plain_place_of};
+ghost use Rattle.hs_plain.specs.Answer.{asked, is_modifying};
+ghost use Rattle.hs_plain.specs.Change.{restamp as plain_restamp, stamped, remode as plain_remode, moded, is_under as is_plain_under, without, new_path as plain_new_path, at_new, repath, put_all as plain_put_all, moved, new_file, with_node, still_in as plain_still_in, removed, renamed, with_mode, change};
 
+use crate::answer::{create_at, delete_at, mkdir_at, rename_at, set_mode_at};
+use crate::files::FileBody;
+use crate::resolve::AskFault;
 use crate::state::{Body, Node, State, Tree};
-use crate::tree::compare_paths;
-use hs_types::{InodeId, List, Mode, Name, NoMemory, RelPath};
+use crate::tree::{compare_paths, place_of};
+use hs_types::{Call, Duplicate, InodeId, List, Mode, Name, NoMemory, PathText, RelPath, Reply};
+use std::alloc::Global;
 use std::cmp::Ordering;
 
 /// The directory above a path.
@@ -36,6 +44,24 @@ fn restamp_all<B>(places: &mut Vec<(RelPath, Node<B>)>, path: &[Name], tick: u64
     }
 }
 
+/// Gives the node a mode and a new stamp, where it stands at this path.
+fn remode<B>(place: &mut (RelPath, Node<B>), path: &[Name], mode: Mode, tick: u64)
+    ensures { place.new ≡ plain_remode path.now mode tick place.old }
+{
+    if path == place.0.items() {
+        place.1.mode = mode;
+        place.1.stamp = tick;
+    }
+}
+
+fn remode_all<B>(places: &mut Vec<(RelPath, Node<B>)>, path: &[Name], mode: Mode, tick: u64)
+    ensures { places.new.items ≡ moded places.old.items path.now mode tick }
+{
+    for place in places.iter_mut() {
+        remode(place, path, mode, tick);
+    }
+}
+
 /// How many places at the front stand before a path.
 fn rank_of<B>(places: &[(RelPath, Node<B>)], path: &[Name]) -> usize
     ensures rank { result ≡ prefix_len (is_after path.now) places.now }
@@ -49,58 +75,311 @@ fn rank_of<B>(places: &[(RelPath, Node<B>)], path: &[Name]) -> usize
     places.len()
 }
 
-#[tactic(auto, using(crate::proofs::Growth::put_stamped))]
-/// Puts a node at a path that meets none, and stamps the directory above it.
-fn grow_places<B: Drop>(
-    places: &mut Vec<(RelPath, Node<B>)>,
-    path: List<Name>,
-    node: Node<B>,
-    tick: u64,
-) -> Result<(), NoMemory>
-    requires { plain_node_at places.old.items path ≡ None }
-    ensures ok { OnOk result (places.new.items ≡ put path_cmp path node (stamped places.old.items (plain_parent_of path) tick)) }
-    ensures err { OnErr result (places.new.items ≡ places.old.items) }
-{
-    places.reserve(1)?;
-    let rank = rank_of(places.as_slice(), path.items());
-    restamp_all(places, parent_of(path.items()), tick);
-    places.insert(rank, (path, node)).unwrap();
-    Ok(())
+/// Whether the place with this number is at the path.
+fn stands_at<B>(places: &[(RelPath, Node<B>)], rank: usize, path: &[Name]) -> bool {
+    match places.get(rank) {
+        Some(place) => compare_paths(path, place.0.items()) == Ordering::Equal,
+        None => false,
+    }
 }
 
-/// Adds a place to a tree, and stamps the directory above it.
+/// Puts a node at a path, in the place of one that is there. There is room for one more.
+fn put_place<B: Drop>(places: &mut Vec<(RelPath, Node<B>)>, path: List<Name>, node: Node<B>)
+    requires { vec_len places.old < vec_capacity places.old }
+    ensures items { places.new.items ≡ put path_cmp path node places.old.items }
+    ensures len { vec_len places.new ≤ vec_len places.old + 1 }
+    ensures room { vec_capacity places.new ≡ vec_capacity places.old }
+{
+    let rank = rank_of(places.as_slice(), path.items());
+    if stands_at(places.as_slice(), rank, path.items()) {
+        places[rank].1 = node;
+    } else {
+        places.insert(rank, (path, node)).unwrap();
+    }
+}
+
+/// Puts a node at a path, and stamps the directory above it.
 fn grow<B: Drop>(
     tree: &mut Tree<B>,
     path: List<Name>,
     node: Node<B>,
     tick: u64,
 ) -> Result<(), NoMemory>
-    requires { plain_node_at tree.old path ≡ None }
     ensures ok { OnOk result (tree.new ≡ put path_cmp path node (stamped tree.old (plain_parent_of path) tick)) }
     ensures err { OnErr result (tree.new ≡ tree.old) }
 {
     let mut places = tree.take();
-    let grown = grow_places(&mut places, path, node, tick);
+    let reserved = places.reserve(1);
+    if reserved.is_ok() {
+        restamp_all(&mut places, parent_of(path.items()), tick);
+        put_place(&mut places, path, node);
+    }
     *tree = List::of(places);
-    grown
+    Ok(reserved?)
 }
 
-/// Makes an empty directory at a path at which one may be made. Without memory the state is as before.
-pub fn make_dir<B: Drop>(state: &mut State<B>, path: List<Name>) -> Result<(), NoMemory>
-    requires free { plain_node_at state.old.tree path ≡ None }
+/// Adds a new node at a path. Without memory the state is as before.
+fn add_node<B: Drop>(state: &mut State<B>, path: List<Name>, node: Node<B>) -> Result<(), NoMemory>
     requires ticks { state.old.tick + 1 < 2 ^ 64 }
     requires inodes { state.old.next_inode + 1 < 2 ^ 64 }
-    ensures ok { OnOk result (state.new ≡ plain_made_dir state.old path) }
+    ensures ok { OnOk result (state.new ≡ with_node state.old path node) }
     ensures err { OnErr result (state.new ≡ state.old) }
 {
-    let tick = state.tick + 1;
-    let node = Node {
-        id: InodeId(state.next_inode),
-        mode: Mode::of_directory(),
-        stamp: tick,
-        body: Body::Dir,
-    };
-    grow(&mut state.tree, path, node, tick)?;
+    grow(&mut state.tree, path, node, state.tick + 1)?;
     state.next_inode += 1;
     Ok(())
+}
+
+/// Whether a place is at a path or below it.
+fn is_under<B>(path: &[Name], place: &(RelPath, Node<B>)) -> bool
+    ensures { result ≡ is_plain_under path.now place.now }
+{
+    place.0.items().starts_with(path)
+}
+
+/// Takes out what is at a path or below it.
+fn cut<B: Drop>(places: &mut Vec<(RelPath, Node<B>)>, path: &[Name])
+    ensures { places.new.items ≡ without places.old.items path.now }
+{
+    places.retain(|place| !is_under(path, place));
+}
+
+/// The ids that are still in a tree.
+fn keep_ids<B>(ids: &mut Vec<InodeId>, tree: &[(RelPath, Node<B>)])
+    ensures { ids.new.items ≡ plain_still_in tree.now ids.old.items }
+{
+    ids.retain(|id| place_of(tree, *id).is_some());
+}
+
+/// Removes what is at a path or below it.
+fn remove_node<B: Drop>(state: &mut State<B>, path: &[Name])
+    requires ticks { state.old.tick + 1 < 2 ^ 64 }
+    ensures { state.new ≡ removed state.old path.now }
+{
+    let mut places = state.tree.take();
+    let mut ids = state.snapshottable.take();
+    cut(&mut places, path);
+    keep_ids(&mut ids, places.as_slice());
+    restamp_all(&mut places, parent_of(path), state.tick + 1);
+    state.tree = List::of(places);
+    state.snapshottable = List::of(ids);
+}
+
+/// Gives the node at a path a mode.
+fn set_mode<B: Drop>(state: &mut State<B>, path: &[Name], mode: Mode)
+    requires ticks { state.old.tick + 1 < 2 ^ 64 }
+    ensures { state.new ≡ with_mode state.old mode path.now }
+{
+    let mut places = state.tree.take();
+    remode_all(&mut places, path, mode, state.tick + 1);
+    state.tree = List::of(places);
+}
+
+/// The path of a place under a path that becomes another.
+fn new_path<B>(
+    alloc: Global,
+    place: &(RelPath, Node<B>),
+    old: &[Name],
+    new: &[Name],
+) -> Result<Option<RelPath>, NoMemory>
+    ensures { IfOk result (λ path. path ≡ plain_new_path old.now new.now place.now) }
+{
+    if !is_under(old, place) {
+        return Ok(None);
+    }
+    let below = &place.0.items()[old.len()..];
+    let room = new.len().checked_add(below.len()).ok_or(NoMemory)?;
+    let mut path = Vec::with_capacity(alloc, room)?;
+    push_names(&mut path, new)?;
+    push_names(&mut path, below)?;
+    Ok(Some(List::of(path)))
+}
+
+/// Copies names to the end of a path.
+fn push_names(path: &mut Vec<Name>, names: &[Name]) -> Result<(), NoMemory>
+    ensures { OnOk result (path.new.items ≡ path.old.items ++ names.now) }
+{
+    for name in names {
+        path.push(name.copy()?)?;
+    }
+    Ok(())
+}
+
+/// The new paths of all places, of those that get one.
+fn new_paths<B>(
+    alloc: Global,
+    places: &[(RelPath, Node<B>)],
+    old: &[Name],
+    new: &[Name],
+) -> Result<Vec<Option<RelPath>>, NoMemory>
+    ensures { IfOk result (λ paths. paths.items ≡ map (plain_new_path old.now new.now) places.now) }
+{
+    let mut paths = Vec::with_capacity(alloc, places.len())?;
+    for place in places {
+        paths.push(new_path(alloc, place, old, new)?)?;
+    }
+    Ok(paths)
+}
+
+/// Puts these places in the order of paths, behind those that are there. There is room for all.
+fn put_all<B: Drop>(
+    sorted: &mut Vec<(RelPath, Node<B>)>,
+    places: Vec<(RelPath, Node<B>)>,
+    paths: Vec<Option<RelPath>>,
+)
+    requires paths { length paths.items ≡ length places.items }
+    requires room { vec_len sorted.old + vec_len places ≤ vec_capacity sorted.old }
+    ensures { sorted.new.items ≡ plain_put_all sorted.old.items (map (λ pair. at_new pair.0 pair.1) (zip places.items paths.items)) }
+{
+    for ((path, node), new_path) in places.into_iter().zip(paths) {
+        put_place(sorted, new_path.unwrap_or(path), node);
+    }
+}
+
+/// Moves what is at a path or below it. Without memory the state is as before.
+fn move_node<B: Drop>(
+    alloc: Global,
+    state: &mut State<B>,
+    old: &[Name],
+    new: &[Name],
+) -> Result<(), NoMemory>
+    requires ticks { state.old.tick + 1 < 2 ^ 64 }
+    ensures ok { OnOk result (state.new ≡ renamed state.old (old.now, new.now)) }
+    ensures err { OnErr result (state.new ≡ state.old) }
+{
+    let paths = new_paths(alloc, state.tree.items(), old, new)?;
+    let mut sorted = Vec::with_capacity(alloc, state.tree.len())?;
+    put_all(&mut sorted, state.tree.take(), paths);
+    let tick = state.tick + 1;
+    restamp_all(&mut sorted, parent_of(old), tick);
+    restamp_all(&mut sorted, parent_of(new), tick);
+    state.tree = List::of(sorted);
+    Ok(())
+}
+
+fn make_dir<B: FileBody>(
+    alloc: Global,
+    state: &mut State<B>,
+    path: &PathText,
+) -> Result<Reply, AskFault>
+    requires ticks { state.old.tick + 1 < 2 ^ 64 }
+    requires inodes { state.old.next_inode + 1 < 2 ^ 64 }
+    ensures reply { IfOk result (λ reply. asked B.files state.old (calls.Mkdir path.now) ≡ Ok reply) }
+    ensures fault { IfErr result (IsFaultOf (asked B.files state.old (calls.Mkdir path.now))) }
+    ensures ok { OnOk result (state.new ≡ change B.files state.old (calls.Mkdir path.now)) }
+    ensures err { OnErr result (state.new ≡ state.old) }
+{
+    let path = mkdir_at(alloc, state, path)?;
+    let id = InodeId(state.next_inode);
+    let node = Node {
+        id,
+        mode: Mode::of_directory(),
+        stamp: state.tick + 1,
+        body: Body::Dir,
+    };
+    add_node(state, path, node)?;
+    Ok(Reply::Made { id })
+}
+
+fn make_file<B: FileBody>(
+    alloc: Global,
+    state: &mut State<B>,
+    path: &PathText,
+    over: bool,
+) -> Result<Reply, AskFault>
+    requires ticks { state.old.tick + 1 < 2 ^ 64 }
+    requires inodes { state.old.next_inode + 1 < 2 ^ 64 }
+    ensures reply { IfOk result (λ reply. asked B.files state.old (calls.Create path.now over) ≡ Ok reply) }
+    ensures fault { IfErr result (IsFaultOf (asked B.files state.old (calls.Create path.now over))) }
+    ensures ok { OnOk result (state.new ≡ change B.files state.old (calls.Create path.now over)) }
+    ensures err { OnErr result (state.new ≡ state.old) }
+{
+    let path = create_at(alloc, state, path, over)?;
+    let id = InodeId(state.next_inode);
+    let node = Node {
+        id,
+        mode: Mode::of_file(),
+        stamp: state.tick + 1,
+        body: Body::File(B::empty(alloc)),
+    };
+    add_node(state, path, node)?;
+    Ok(Reply::Made { id })
+}
+
+fn delete<B: FileBody>(
+    alloc: Global,
+    state: &mut State<B>,
+    path: &PathText,
+    recursive: bool,
+) -> Result<Reply, AskFault>
+    requires ticks { state.old.tick + 1 < 2 ^ 64 }
+    ensures reply { IfOk result (λ reply. asked B.files state.old (calls.Delete path.now recursive) ≡ Ok reply) }
+    ensures fault { IfErr result (IsFaultOf (asked B.files state.old (calls.Delete path.now recursive))) }
+    ensures ok { OnOk result (state.new ≡ change B.files state.old (calls.Delete path.now recursive)) }
+    ensures err { OnErr result (state.new ≡ state.old) }
+{
+    let path = delete_at(alloc, state, path, recursive)?;
+    remove_node(state, path.items());
+    Ok(Reply::Done)
+}
+
+fn rename<B: FileBody>(
+    alloc: Global,
+    state: &mut State<B>,
+    old: &PathText,
+    new: &PathText,
+) -> Result<Reply, AskFault>
+    requires ticks { state.old.tick + 1 < 2 ^ 64 }
+    ensures reply { IfOk result (λ reply. asked B.files state.old (calls.Rename old.now new.now) ≡ Ok reply) }
+    ensures fault { IfErr result (IsFaultOf (asked B.files state.old (calls.Rename old.now new.now))) }
+    ensures ok { OnOk result (state.new ≡ change B.files state.old (calls.Rename old.now new.now)) }
+    ensures err { OnErr result (state.new ≡ state.old) }
+{
+    let paths = rename_at(alloc, state, old, new)?;
+    move_node(alloc, state, paths.0.items(), paths.1.items())?;
+    Ok(Reply::Done)
+}
+
+fn change_mode<B: FileBody>(
+    alloc: Global,
+    state: &mut State<B>,
+    path: &PathText,
+    mode: Mode,
+) -> Result<Reply, AskFault>
+    requires ticks { state.old.tick + 1 < 2 ^ 64 }
+    ensures reply { IfOk result (λ reply. asked B.files state.old (calls.SetMode path.now mode) ≡ Ok reply) }
+    ensures fault { IfErr result (IsFaultOf (asked B.files state.old (calls.SetMode path.now mode))) }
+    ensures ok { OnOk result (state.new ≡ change B.files state.old (calls.SetMode path.now mode)) }
+    ensures err { OnErr result (state.new ≡ state.old) }
+{
+    let path = set_mode_at(alloc, state, path)?;
+    set_mode(state, path.items(), mode);
+    Ok(Reply::Done)
+}
+
+/// Makes the change of a modifying call, where it isn't refused, and gives the reply. The tick stays. After a
+/// refusal, and without memory, the state is as before.
+pub fn make_change<B: FileBody>(
+    alloc: Global,
+    state: &mut State<B>,
+    call: &Call,
+) -> Result<Reply, AskFault>
+    requires modifying { is_modifying call.now ≡ true }
+    requires ticks { state.old.tick + 1 < 2 ^ 64 }
+    requires inodes { state.old.next_inode + 1 < 2 ^ 64 }
+    ensures reply { IfOk result (λ reply. asked B.files state.old call.now ≡ Ok reply) }
+    ensures fault { IfErr result (IsFaultOf (asked B.files state.old call.now)) }
+    ensures ok { OnOk result (state.new ≡ change B.files state.old call.now) }
+    ensures inodes { state.new.next_inode ≤ state.old.next_inode + 1 }
+    ensures tick { state.new.tick ≡ state.old.tick }
+    ensures err { OnErr result (state.new ≡ state.old) }
+{
+    match call {
+        Call::Mkdir { path } => make_dir(alloc, state, path),
+        Call::Create { path, over } => make_file(alloc, state, path, *over),
+        Call::Delete { path, recursive } => delete(alloc, state, path, *recursive),
+        Call::Rename { old, new } => rename(alloc, state, old, new),
+        Call::SetMode { path, mode } => change_mode(alloc, state, path, *mode),
+        Call::Stat { .. } | Call::List { .. } => unreachable!(),
+    }
 }

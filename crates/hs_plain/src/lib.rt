@@ -3,6 +3,7 @@
 
 pub mod answer;
 pub mod change;
+pub mod files;
 pub mod laws;
 pub mod lines;
 pub mod replay;
@@ -10,6 +11,7 @@ pub mod resolve;
 pub mod state;
 pub mod tree;
 
+pub use files::FileBody;
 pub use resolve::AskFault;
 pub use state::{Body, Bytes, FileBlocks, Member, Node, PlainState, State, Tree, WholeState};
 

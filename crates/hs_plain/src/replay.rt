@@ -1,14 +1,16 @@
 //! The state that a journal stands for.
 ghost use Rattle.std.specs.Prelude.{◌≡◌, ◌+◌, ◌<◌, ◌≤◌, ◌^◌, Ok, Err, IfOk, OnOk};
-ghost use Rattle.hs_types.specs.declared.call.Call.TheVariants as calls;
 ghost use Rattle.hs_plain.specs.State.{start as plain_start};
-ghost use Rattle.hs_plain.specs.Answer.{after as plain_after_entry, done as plain_done, plain_after};
+ghost use Rattle.hs_plain.specs.Answer.{is_exclusive as is_plain_exclusive};
+ghost use Rattle.hs_plain.specs.Change.{changed_if, after as plain_after_entry};
+ghost use Rattle.hs_plain.specs.Replay.{plain_after};
 
-use crate::answer::{live_path, may_make};
-use crate::change::make_dir;
+use crate::answer::is_exclusive;
+use crate::change::make_change;
+use crate::files::FileBody;
 use crate::resolve::AskFault;
 use crate::state::{Body, Node, PlainState, State};
-use hs_types::{Call, Entry, EntryKind, InodeId, List, Mode, NoMemory, PathText};
+use hs_types::{Call, Entry, EntryKind, InodeId, List, Mode, NoMemory};
 use std::alloc::Global;
 
 /// The root alone.
@@ -33,38 +35,37 @@ pub fn start<B: Drop>(alloc: Global) -> Result<State<B>, NoMemory>
     })
 }
 
-/// Makes a directory, if the plain machine does.
-fn do_mkdir<B: Drop>(alloc: Global, state: &mut State<B>, path: &PathText) -> Result<(), NoMemory>
+/// Makes a call's change, where it isn't refused. Without memory the state is of no use.
+fn make_accepted<B: FileBody>(
+    alloc: Global,
+    state: &mut State<B>,
+    call: &Call,
+) -> Result<(), NoMemory>
     requires ticks { state.old.tick + 1 < 2 ^ 64 }
     requires inodes { state.old.next_inode + 1 < 2 ^ 64 }
-    ensures done { OnOk result (state.new ≡ plain_done state.old (calls.Mkdir path.now)) }
+    ensures changed { OnOk result (state.new ≡ changed_if (is_plain_exclusive call.now) B.files state.old call.now) }
     ensures inodes { OnOk result (state.new.next_inode ≤ state.old.next_inode + 1) }
     ensures tick { OnOk result (state.new.tick ≡ state.old.tick) }
 {
-    let path = match live_path(alloc, path) {
-        Ok(path) => path,
-        Err(AskFault::Refused(_)) => return Ok(()),
-        Err(AskFault::NoMemory) => return Err(NoMemory),
-    };
-    match may_make(state, path.items()) {
-        Ok(()) => make_dir(state, path),
-        Err(_) => Ok(()),
+    if !is_exclusive(call) {
+        return Ok(());
+    }
+    match make_change(alloc, state, call) {
+        Err(AskFault::NoMemory) => Err(NoMemory),
+        Ok(_) | Err(AskFault::Refused(_)) => Ok(()),
     }
 }
 
 /// Changes a state as an entry of the journal does. Without memory the state is of no use.
-fn apply<B: Drop>(alloc: Global, state: &mut State<B>, entry: &Entry) -> Result<(), NoMemory>
+fn apply<B: FileBody>(alloc: Global, state: &mut State<B>, entry: &Entry) -> Result<(), NoMemory>
     requires ticks { state.old.tick + 1 < 2 ^ 64 }
     requires inodes { state.old.next_inode + 1 < 2 ^ 64 }
-    ensures after { OnOk result (state.new ≡ plain_after_entry state.old entry.now) }
+    ensures after { OnOk result (state.new ≡ plain_after_entry B.files state.old entry.now) }
     ensures inodes { OnOk result (state.new.next_inode ≤ state.old.next_inode + 1) }
     ensures tick { OnOk result (state.new.tick ≡ state.old.tick + 1) }
 {
     if entry.kind == EntryKind::Accepted {
-        match &entry.call {
-            Call::Mkdir { path } => do_mkdir(alloc, state, path)?,
-            Call::List { .. } => {}
-        }
+        make_accepted(alloc, state, &entry.call)?;
     }
     state.tick += 1;
     Ok(())

@@ -76,7 +76,7 @@ fn member_named<'m, B>(
 }
 
 /// The snapshot of a directory that has this id.
-fn member_with<B>(members: &[Member<B>], snapshot: SnapId) -> Result<&Member<B>, Refusal>
+pub fn member_with<B>(members: &[Member<B>], snapshot: SnapId) -> Result<&Member<B>, Refusal>
     ensures { MatchResult result (λ member. plain_member_with members.now snapshot ≡ Ok member.now) (λ why. plain_member_with members.now snapshot ≡ Err why) }
 {
     for member in members {

@@ -1,9 +1,10 @@
 //! Walks, look-ups and listings of a tree, each by one pass over its places.
 ghost use Rattle.std.specs.Prelude.{◌≡◌, ◌++◌, ◌<◌, Ok, Err, IfOk, OnOk, OnErr, MatchResult, map};
 ghost use Rattle.std.specs.Option.{option_copied, option_to_list};
-ghost use Rattle.hs_plain.specs.Tree.{node_at as plain_node_at, walks_above as plain_walks_above, walk as plain_walk, passes as plain_passes, path_cmp, is_dir as is_plain_dir, name_below as plain_name_below, child_item, listing as plain_listing};
+ghost use Rattle.hs_plain.specs.Tree.{node_at as plain_node_at, walks_above as plain_walks_above, walk as plain_walk, passes as plain_passes, path_cmp, is_dir as is_plain_dir, name_below as plain_name_below, child_item, listing as plain_listing, child_count as plain_child_count, size_of as plain_size_of, is_root_path as is_plain_root_path, is_above as is_plain_above};
 ghost use Rattle.hs_plain.specs.State.{place_of as plain_place_of};
 
+use crate::files::FileBody;
 use crate::state::{Body, Node};
 use hs_types::{Duplicate, InodeId, Item, List, Name, NoMemory, Refusal, RelPath};
 use std::alloc::Global;
@@ -94,6 +95,43 @@ pub fn name_below<'p>(dir: &[Name], path: &'p [Name]) -> Option<&'p Name>
         [name] => Some(name),
         _ => None,
     }
+}
+
+/// How many children a directory has.
+pub fn child_count<B>(tree: &[(RelPath, Node<B>)], path: &[Name]) -> usize
+    ensures { result ≡ plain_child_count tree.now path.now }
+{
+    let mut children = 0;
+    for place in tree {
+        if name_below(path, place.0.items()).is_some() {
+            children += 1;
+        }
+    }
+    children
+}
+
+/// Bytes of a file, children of a directory.
+pub fn size_of<B: FileBody>(tree: &[(RelPath, Node<B>)], path: &[Name], body: &Body<B>) -> u64
+    ensures { result ≡ plain_size_of B.files.size tree.now path.now body.now }
+{
+    match body {
+        Body::File(file) => file.size(),
+        Body::Dir => child_count(tree, path) as u64,
+    }
+}
+
+/// Whether a path is the root's.
+pub fn is_root_path(path: &[Name]) -> bool
+    ensures { result ≡ is_plain_root_path path.now }
+{
+    path.is_empty()
+}
+
+/// Whether a path lies below another.
+pub fn is_above(above: &[Name], path: &[Name]) -> bool
+    ensures { result ≡ is_plain_above above.now path.now }
+{
+    path.starts_with(above) && above.len() < path.len()
 }
 
 /// The items of a directory, in name order.

@@ -1,7 +1,7 @@
 -- The numbers and names of refusals.
 use Rattle.std.specs.Prelude.{ℕ, List, codes}
 use Rattle.hs_types.specs.declared.call.Refusal.{Refusal}
-use Rattle.hs_types.specs.declared.call.Refusal.TheVariants.{BadPath, TooLong, TooDeep, Reserved, ReadOnly, NotFound, NotDir, Exists}
+use Rattle.hs_types.specs.declared.call.Refusal.TheVariants.{BadPath, TooLong, TooDeep, Reserved, ReadOnly, NotFound, NotDir, NotFile, Exists, IsRoot, NotEmpty, IntoItself}
 
 -- the number of a refusal; of several that hold, the one with the least number is answered
 abbrev pub number_of : Refusal → ℕ
@@ -12,7 +12,11 @@ number_of Reserved = 4
 number_of ReadOnly = 5
 number_of NotFound = 6
 number_of NotDir = 7
+number_of NotFile = 8
 number_of Exists = 9
+number_of IsRoot = 11
+number_of NotEmpty = 12
+number_of IntoItself = 14
 
 -- the name of a refusal, as it is printed
 abbrev pub refusal_name : Refusal → List ℕ
@@ -23,4 +27,8 @@ refusal_name Reserved = codes "Reserved"
 refusal_name ReadOnly = codes "ReadOnly"
 refusal_name NotFound = codes "NotFound"
 refusal_name NotDir = codes "NotDir"
+refusal_name NotFile = codes "NotFile"
 refusal_name Exists = codes "Exists"
+refusal_name IsRoot = codes "IsRoot"
+refusal_name NotEmpty = codes "NotEmpty"
+refusal_name IntoItself = codes "IntoItself"

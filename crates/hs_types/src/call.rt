@@ -14,6 +14,16 @@ use crate::path::PathText;
 pub enum Call {
     /// Adds one empty directory to an existing parent.
     Mkdir { path: PathText },
+    /// Adds one empty file to an existing parent. With `over` an existing file of that name makes way for it.
+    Create { path: PathText, over: bool },
+    /// Removes a file or an empty directory; with `recursive` also a directory and all below it.
+    Delete { path: PathText, recursive: bool },
+    /// Moves a node, with all below it, to a new parent and name.
+    Rename { old: PathText, new: PathText },
+    /// Gives a node this mode.
+    SetMode { path: PathText, mode: Mode },
+    /// What a node is, without what it holds.
+    Stat { path: PathText },
     /// The first page of a directory's items, in name order.
     List { path: PathText, size: PageSize },
 }
@@ -22,6 +32,23 @@ impl Duplicate for Call {
     fn copy(&self) -> Result<Call, NoMemory> {
         match self {
             Call::Mkdir { path } => Ok(Call::Mkdir { path: path.copy()? }),
+            Call::Create { path, over } => Ok(Call::Create {
+                path: path.copy()?,
+                over: *over,
+            }),
+            Call::Delete { path, recursive } => Ok(Call::Delete {
+                path: path.copy()?,
+                recursive: *recursive,
+            }),
+            Call::Rename { old, new } => Ok(Call::Rename {
+                old: old.copy()?,
+                new: new.copy()?,
+            }),
+            Call::SetMode { path, mode } => Ok(Call::SetMode {
+                path: path.copy()?,
+                mode: *mode,
+            }),
+            Call::Stat { path } => Ok(Call::Stat { path: path.copy()? }),
             Call::List { path, size } => Ok(Call::List {
                 path: path.copy()?,
                 size: *size,
@@ -36,6 +63,17 @@ pub enum Reply {
     /// A new node, with this id.
     Made {
         id: InodeId,
+    },
+    /// The call was accepted.
+    Done,
+    /// What a node is. `size` is the number of bytes of a file, of children of a directory, or of snapshots of a list of
+    /// snapshots, which has the other fields of its directory.
+    Stat {
+        id: InodeId,
+        is_dir: bool,
+        mode: Mode,
+        stamp: u64,
+        size: u64,
     },
     /// Items in name order. `next` is `None` exactly where no item is left.
     Page {
@@ -65,8 +103,16 @@ pub enum Refusal {
     NotFound,
     /// A file stands where a directory is needed.
     NotDir,
+    /// A directory stands where a file is needed.
+    NotFile,
     /// A node stands where a new one is to be made.
     Exists,
+    /// The root can be neither deleted nor renamed.
+    IsRoot,
+    /// A directory with children is deleted with them only where that is asked for.
+    NotEmpty,
+    /// A node's new place is below itself.
+    IntoItself,
 }
 
 impl Refusal {
@@ -82,7 +128,11 @@ impl Refusal {
             Refusal::ReadOnly => 5,
             Refusal::NotFound => 6,
             Refusal::NotDir => 7,
+            Refusal::NotFile => 8,
             Refusal::Exists => 9,
+            Refusal::IsRoot => 11,
+            Refusal::NotEmpty => 12,
+            Refusal::IntoItself => 14,
         }
     }
 
@@ -98,7 +148,11 @@ impl Refusal {
             Refusal::ReadOnly => "ReadOnly",
             Refusal::NotFound => "NotFound",
             Refusal::NotDir => "NotDir",
+            Refusal::NotFile => "NotFile",
             Refusal::Exists => "Exists",
+            Refusal::IsRoot => "IsRoot",
+            Refusal::NotEmpty => "NotEmpty",
+            Refusal::IntoItself => "IntoItself",
         }
     }
 }

@@ -2,6 +2,7 @@
 #![tactic(auto)]
 
 pub mod call;
+pub mod chunk;
 pub mod ids;
 pub mod list;
 pub mod memory;
@@ -13,11 +14,12 @@ pub mod text;
 pub use call::{
     Answered, Call, Counts, Entry, EntryKind, Item, ListCursor, Place, Refusal, Reply, TreeLine,
 };
+pub use chunk::Chunk;
 pub use ids::{BlockId, CallerId, InodeId, Side, SnapId};
 pub use list::List;
 pub use memory::{Duplicate, NoMemory};
 pub use name::{Name, NameFault, NameText, SnapItem, Spot};
-pub use numbers::{Mode, PageSize};
+pub use numbers::{Mode, PageSize, ReadLen};
 pub use path::{Path, PathFault, PathTail, PathText, RelPath};
 pub use text::Text;
 

@@ -120,6 +120,18 @@ impl<T: Duplicate + Drop> Duplicate for List<T> {
     }
 }
 
+impl List<u8> {
+    /// Copies all bytes at once.
+    pub fn copy_bytes(&self) -> Result<List<u8>, NoMemory>
+        ensures { IfOk result (λ copy. copy ≡ self.now) }
+    {
+        let alloc = *self.items.allocator();
+        Ok(List {
+            items: self.items.as_slice().to_vec(alloc)?,
+        })
+    }
+}
+
 impl<T: PartialEq> PartialEq for List<T> {
     ghost eq = { λ a b. pointwise T.eq a b };
 

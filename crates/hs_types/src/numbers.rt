@@ -110,3 +110,47 @@ impl PageSize {
         self.entries
     }
 }
+
+/// How many bytes a read asks for at most, from 1 to 65,536.
+#[derive(Clone, Copy, Debug, PartialEq, Eq, PartialOrd, Ord, Hash)]
+pub struct ReadLen {
+    bytes: u32,
+}
+
+impl Model for ReadLen {
+    ghost use Rattle.std.specs.Prelude.{ℕ, ◌≤◌};
+
+    ghost Value = { ℕ };
+
+    ghost view = { λ r. r.bytes };
+
+    ghost invariant = { λ r. (1 ≤ r.bytes) × (r.bytes ≤ 65536) };
+
+    ghost inverse = { λ bytes. record { bytes = bytes } };
+}
+
+impl ReadLen {
+    /// The greatest read.
+    pub const GREATEST: u32 = 65536;
+
+    /// `None` exactly at 0 and above 65,536.
+    pub fn new(bytes: u32) -> Option<ReadLen>
+        ensures in_range { IfSome result (λ len. (len ≡ bytes) × (1 ≤ bytes) × (bytes ≤ 65536)) }
+        ensures out_of_range { IfNone result (1 ≤ bytes → 65537 ≤ bytes) }
+    {
+        if 1 <= bytes && bytes <= ReadLen::GREATEST {
+            Some(ReadLen { bytes })
+        } else {
+            None
+        }
+    }
+
+    /// The number of bytes.
+    pub fn bytes(self) -> u32
+        ensures value { result ≡ self }
+        ensures at_least { 1 ≤ self }
+        ensures at_most { self ≤ 65536 }
+    {
+        self.bytes
+    }
+}

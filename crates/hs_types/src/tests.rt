@@ -172,9 +172,25 @@ fn numbers_stay_in_range(rt: HostRuntime) {
     for (entries, is_page) in pages {
         assert_eq!(rt; PageSize::new(entries).is_some(), is_page, "at {entries}");
     }
+    let lengths = [(0, false), (1, true), (65_536, true), (65_537, false)];
+    for (bytes, is_length) in lengths {
+        assert_eq!(rt; ReadLen::new(bytes).is_some(), is_length, "at {bytes}");
+    }
     assert_eq!(rt; Mode::of_directory().bits(), 0o755);
     assert_eq!(rt; Mode::of_file().bits(), 0o644);
     assert_eq!(rt; PageSize::greatest().entries(), 1000);
+}
+
+#[test]
+fn a_chunk_has_at_most_65536_bytes(rt: HostRuntime) -> Result<(), Fail> {
+    for (length, is_chunk) in [(0, true), (65_536, true), (65_537, false)] {
+        let bytes = "a".repeat(rt.alloc(), length)?.into_bytes();
+        match Chunk::new(bytes) {
+            Ok(chunk) => assert_eq!(rt; (chunk.copy()?.bytes().len(), true), (length, is_chunk)),
+            Err(back) => assert_eq!(rt; (back.len(), false), (length, is_chunk)),
+        }
+    }
+    Ok(())
 }
 
 #[test]
@@ -190,6 +206,46 @@ fn copies_equal_their_source(rt: HostRuntime) -> Result<(), Fail> {
     assert_eq!(rt; list.copy()?, list);
     let names = names_of(alloc, &["b", "a"])?;
     assert_eq!(rt; names.copy()?, names);
+    Ok(())
+}
+
+fn text_of(alloc: Global, text: &str) -> Result<PathText, Fail> {
+    Ok(PathText::new(String::from_str(alloc, text)?))
+}
+
+#[test]
+fn copies_of_calls_equal_their_source(rt: HostRuntime) -> Result<(), Fail> {
+    let alloc = rt.alloc();
+    let create = Call::Create {
+        path: text_of(alloc, "/a")?,
+        over: true,
+    };
+    assert_eq!(rt; create.copy()?, create);
+    let delete = Call::Delete {
+        path: text_of(alloc, "/a")?,
+        recursive: true,
+    };
+    assert_eq!(rt; delete.copy()?, delete);
+    let rename = Call::Rename {
+        old: text_of(alloc, "/a")?,
+        new: text_of(alloc, "/b")?,
+    };
+    assert_eq!(rt; rename.copy()?, rename);
+    Ok(())
+}
+
+#[test]
+fn copies_of_calls_on_one_node_equal_their_source(rt: HostRuntime) -> Result<(), Fail> {
+    let alloc = rt.alloc();
+    let set_mode = Call::SetMode {
+        path: text_of(alloc, "/a")?,
+        mode: Mode::of_file(),
+    };
+    assert_eq!(rt; set_mode.copy()?, set_mode);
+    let stat = Call::Stat {
+        path: text_of(alloc, "/a")?,
+    };
+    assert_eq!(rt; stat.copy()?, stat);
     Ok(())
 }
 
@@ -246,7 +302,11 @@ fn refusals_have_their_numbers(rt: HostRuntime) {
         (Refusal::ReadOnly, 5, "ReadOnly"),
         (Refusal::NotFound, 6, "NotFound"),
         (Refusal::NotDir, 7, "NotDir"),
+        (Refusal::NotFile, 8, "NotFile"),
         (Refusal::Exists, 9, "Exists"),
+        (Refusal::IsRoot, 11, "IsRoot"),
+        (Refusal::NotEmpty, 12, "NotEmpty"),
+        (Refusal::IntoItself, 14, "IntoItself"),
     ];
     for (refusal, number, name) in cases {
         assert_eq!(rt; refusal.number(), number);

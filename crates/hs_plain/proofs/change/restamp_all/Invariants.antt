@@ -1,5 +1,5 @@
 use Rattle.std.proofs.Common.{◌≡◌, ◌++◌, take, drop}
-use Rattle.hs_plain.specs.Tree.{stamped}
+use Rattle.hs_plain.specs.Change.{stamped}
 use Rattle.hs_plain.proofs.change.restamp_all.Given as goal
 
 -- the places so far are stamped, and the others as they were

@@ -1,6 +1,6 @@
 use Rattle.std.proofs.Common.{◌≡◌, ◌≤◌, ◌+◌, length, drop}
 use Rattle.hs_plain.specs.Tree.{listing}
-use Rattle.hs_plain.proofs.lines.children_of.Given as goal
+use Rattle.hs_plain.proofs.tree.child_count.Given as goal
 
 -- the children so far and those among the places that are left are all
 abbrev pub invariant-loop-place : goal.invariant-loop-place
