@@ -238,6 +238,7 @@ fn put_all<B: Drop>(
     }
 }
 
+#[tactic(auto, using(crate::proofs::Moves::repathed))]
 /// Moves what is at a path or below it. Without memory the state is as before.
 fn move_node<B: Drop>(
     alloc: Global,
