@@ -1,5 +1,6 @@
 pub mod Growth
 pub mod Moves
 pub mod Ranks
+pub mod Refusals
 
 pub mod Walks
