@@ -1,4 +1,4 @@
 pub mod Growth
 pub mod Ranks
-
+pub mod ValidTrees
 pub mod Walks
