@@ -1,4 +1,12 @@
 pub mod Growth
 pub mod Ranks
+pub mod ValidAsked
+pub mod ValidChanges
+pub mod Validity
+pub mod ValidMoves
+pub mod ValidNodes
+pub mod ValidPlaces
+pub mod ValidRepaths
+pub mod ValidShapes
 pub mod ValidTrees
 pub mod Walks
