@@ -1,4 +1,5 @@
 pub mod Growth
 pub mod Ranks
-
+pub mod Viewed
+pub mod ViewedChange
 pub mod Walks
