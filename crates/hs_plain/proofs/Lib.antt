@@ -1,5 +1,6 @@
 pub mod Growth
 pub mod Ranks
+pub mod ValidTrees
 pub mod Viewed
 pub mod ViewedChange
 pub mod Walks
