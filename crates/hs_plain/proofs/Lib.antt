@@ -1,4 +1,5 @@
 pub mod Growth
+pub mod Moves
 pub mod Ranks
 pub mod ValidTrees
 pub mod Viewed
