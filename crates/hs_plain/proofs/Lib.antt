@@ -11,4 +11,6 @@ pub mod ValidRepaths
 pub mod ValidShapes
 pub mod ValidTrees
 pub mod Validity
+pub mod Viewed
+pub mod ViewedChange
 pub mod Walks
