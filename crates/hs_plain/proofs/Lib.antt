@@ -1,4 +1,5 @@
 pub mod Growth
+pub mod Halves
 pub mod Moves
 pub mod Ranks
 pub mod Refusals

@@ -1,5 +1,7 @@
 //! The state that a journal stands for.
-ghost use Rattle.std.specs.Prelude.{◌≡◌, ◌+◌, ◌<◌, ◌≤◌, ◌^◌, Ok, Err, IfOk, OnOk};
+ghost use Rattle.std.specs.Prelude.{◌≡◌, ◌+◌, ◌<◌, ◌≤◌, ◌^◌, Ok, Err, IfOk, OnOk, true};
+ghost use Rattle.std.specs.FinMap.Entries.{is_sorted};
+ghost use Rattle.hs_plain.specs.Tree.{path_cmp};
 ghost use Rattle.hs_plain.specs.State.{start as plain_start};
 ghost use Rattle.hs_plain.specs.Answer.{is_exclusive as is_plain_exclusive};
 ghost use Rattle.hs_plain.specs.Change.{changed_if, after as plain_after_entry};
@@ -55,9 +57,11 @@ fn make_accepted<B: FileBody>(
 ) -> Result<(), NoMemory>
     requires ticks { state.old.tick + 1 < 2 ^ 64 }
     requires inodes { state.old.next_inode + 1 < 2 ^ 64 }
+    requires sorted { is_sorted path_cmp state.old.tree ≡ true }
     ensures changed { OnOk result (state.new ≡ changed_if (is_plain_exclusive call.now) B.files state.old call.now) }
     ensures inodes { OnOk result (state.new.next_inode ≤ state.old.next_inode + 1) }
     ensures tick { OnOk result (state.new.tick ≡ state.old.tick) }
+    ensures sorted { OnOk result (is_sorted path_cmp state.new.tree ≡ true) }
 {
     if !is_exclusive(call) {
         return Ok(());
@@ -73,9 +77,11 @@ fn make_accepted<B: FileBody>(
 fn apply<B: FileBody>(alloc: Global, state: &mut State<B>, entry: &Entry) -> Result<(), NoMemory>
     requires ticks { state.old.tick + 1 < 2 ^ 64 }
     requires inodes { state.old.next_inode + 1 < 2 ^ 64 }
+    requires sorted { is_sorted path_cmp state.old.tree ≡ true }
     ensures after { OnOk result (state.new ≡ plain_after_entry B.files state.old entry.now) }
     ensures inodes { OnOk result (state.new.next_inode ≤ state.old.next_inode + 1) }
     ensures tick { OnOk result (state.new.tick ≡ state.old.tick + 1) }
+    ensures sorted { OnOk result (is_sorted path_cmp state.new.tree ≡ true) }
 {
     if entry.kind == EntryKind::Accepted {
         make_accepted(alloc, state, &entry.call)?;

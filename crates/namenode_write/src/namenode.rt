@@ -53,6 +53,7 @@ fn change_with_room(
     requires exclusive { is_exclusive call.now ≡ true }
     requires ticks { state.old.tick + 1 < 2 ^ 64 }
     requires inodes { state.old.next_inode + 1 < 2 ^ 64 }
+    requires sorted { IsSorted state.old }
     ensures reply { IfOk result (λ reply. asked block_files state.old call.now ≡ Ok reply) }
     ensures changed { OnOk result (state.new ≡ ticked (change block_files state.old call.now)) }
     ensures room { OnOk result (vec_len journal.new < vec_capacity journal.new) }
