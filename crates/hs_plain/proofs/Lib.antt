@@ -3,6 +3,7 @@ pub mod Halves
 pub mod Moves
 pub mod Ranks
 pub mod Refusals
+pub mod Stands
 pub mod ValidAsked
 pub mod ValidChanges
 pub mod ValidMoves
