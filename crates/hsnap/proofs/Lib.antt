@@ -1,4 +1,6 @@
 pub mod ScriptLines
+pub mod ScriptModes
+pub mod ScriptWords
 pub mod Small
 pub mod TextModes
 pub mod Turns
