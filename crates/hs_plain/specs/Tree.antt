@@ -1,7 +1,7 @@
 -- A tree is the list of its places, by rising paths: a finite map from paths to nodes.
 use Rattle.std.specs.Prelude.{◌≡◌, ℕ, ◌+◌, ◌-◌, Bool, true, false, ◌&&◌, ◌==◌, nat_lt, bytes_eq, if◌then◌else◌, List, [], ◌∷◌, ◌++◌, map, length, take, drop, Option, Some, None, Ok, Err, is_some}
 use Rattle.std.specs.List.{list_all, filter_map, starts_with}
-use Rattle.std.specs.Ordering.{nat_cmp, is_gt}
+use Rattle.std.specs.Ordering.{nat_cmp, is_gt, is_eq}
 use Rattle.std.specs.declared.cmp.Ordering.{Ordering}
 use Rattle.std.specs.Cmp.Lexicographic.{slice_cmp, pointwise}
 use Rattle.std.specs.FinMap.Entries.{find}
@@ -24,6 +24,11 @@ path_cmp = slice_cmp (slice_cmp nat_cmp)
 -- whether a path comes after a place
 abbrev pub is_after : {B : Type 0} → Names → Names × Node B → Bool
 is_after path place = is_gt (path_cmp path place.0)
+
+-- whether a place is at a path
+abbrev pub is_place_at : {B : Type 0} → Names → Option (Names × Node B) → Bool
+is_place_at path None = false
+is_place_at path (Some place) = is_eq (path_cmp path place.0)
 
 -- the node at a path
 abbrev pub node_at : {B : Type 0} → Tree B → Names → Option (Node B)

@@ -1,10 +1,10 @@
 //! What modifying calls change.
-ghost use Rattle.std.specs.Prelude.{◌≡◌, ◌+◌, ◌<◌, ◌≤◌, ◌^◌, ◌++◌, [], Ok, Err, IfOk, IfErr, OnOk, OnErr, MatchResult, Some, None, true, false, not, map, length, take, drop, vec_len, vec_capacity};
+ghost use Rattle.std.specs.Prelude.{◌≡◌, ◌+◌, ◌<◌, ◌≤◌, ◌^◌, ◌++◌, [], Ok, Err, IfOk, IfErr, OnOk, OnErr, MatchResult, Some, None, true, false, not, map, length, take, drop, slice_get, vec_len, vec_capacity};
 ghost use Rattle.std.specs.List.{prefix_len, zip};
 ghost use Rattle.std.specs.FinMap.Entries.{put};
 ghost use Rattle.hs_types.specs.declared.call.Call.TheVariants as calls;
 ghost use Rattle.hs_plain.specs.Faults.{IsFaultOf};
-ghost use Rattle.hs_plain.specs.Tree.{path_cmp, parent_of as plain_parent_of, is_after};
+ghost use Rattle.hs_plain.specs.Tree.{path_cmp, parent_of as plain_parent_of, is_after, is_place_at as is_plain_place_at};
 ghost use Rattle.hs_plain.specs.State.{new_dir, place_of as plain_place_of};
 ghost use Rattle.hs_plain.specs.Answer.{asked, is_modifying};
 ghost use Rattle.hs_plain.specs.Change.{restamp as plain_restamp, stamped, remode as plain_remode, moded, is_under as is_plain_under, without, new_path as plain_new_path, at_new, repath, put_all as plain_put_all, moved, new_file, with_node, still_in as plain_still_in, removed, renamed, with_mode, change};
@@ -75,8 +75,10 @@ fn rank_of<B>(places: &[(RelPath, Node<B>)], path: &[Name]) -> usize
     places.len()
 }
 
-/// Whether the place with this number is at the path.
-fn stands_at<B>(places: &[(RelPath, Node<B>)], rank: usize, path: &[Name]) -> bool {
+/// Whether the place with this number is at a path.
+fn is_place_at<B>(places: &[(RelPath, Node<B>)], rank: usize, path: &[Name]) -> bool
+    ensures { result ≡ is_plain_place_at path.now (slice_get places.now rank) }
+{
     match places.get(rank) {
         Some(place) => compare_paths(path, place.0.items()) == Ordering::Equal,
         None => false,
@@ -91,7 +93,7 @@ fn put_place<B: Drop>(places: &mut Vec<(RelPath, Node<B>)>, path: List<Name>, no
     ensures room { vec_capacity places.new ≡ vec_capacity places.old }
 {
     let rank = rank_of(places.as_slice(), path.items());
-    if stands_at(places.as_slice(), rank, path.items()) {
+    if is_place_at(places.as_slice(), rank, path.items()) {
         places[rank].1 = node;
     } else {
         places.insert(rank, (path, node)).unwrap();
@@ -236,6 +238,7 @@ fn put_all<B: Drop>(
     }
 }
 
+#[tactic(auto, using(crate::proofs::Moves::repathed))]
 /// Moves what is at a path or below it. Without memory the state is as before.
 fn move_node<B: Drop>(
     alloc: Global,

@@ -1,29 +1,41 @@
 -- A namenode stays consistent as its journal grows.
-use Rattle.std.proofs.Common.{◌≡◌, ℕ, suc, ◌+◌, ◌-◌, Some, None, Err, slice_get, ◌≤◌, Bool, true, false, cond, ◌&&◌, List, [], ◌∷◌, ◌++◌, map, take, length, replicate, refl, ap, sym, ◌∙◌, length-append, arith}
+use Rattle.std.proofs.Common.{◌≡◌, ℕ, suc, ◌+◌, ◌-◌, Some, None, Ok, Err, slice_get, ◌≤◌, Bool, true, false, cond, ◌&&◌, List, [], ◌∷◌, ◌++◌, map, take, length, replicate, refl, ap, sym, subst, ◌∙◌, length-append, arith}
 use Rattle.std.proofs.lemmas.List.{length-replicate, length-map, take_all}
 use Rattle.std.proofs.Math.Seq.{take-append_seam}
+use Rattle.std.specs.List.{list_all}
+use Rattle.std.specs.FinMap.Entries.{is_sorted}
 use Rattle.hs_types.specs.Names.{Names}
 use Rattle.hs_types.specs.declared.call.Reply.{Reply}
+use Rattle.hs_types.specs.declared.call.Reply.TheVariants as replies
 use Rattle.hs_types.specs.declared.call.Item.{Item}
 use Rattle.hs_types.specs.declared.call.TreeLine.{TreeLine}
 use Rattle.hs_types.specs.declared.ids.CallerId.{CallerId}
 use Rattle.hs_types.specs.declared.call.Call.{Call}
+use Rattle.hs_types.specs.declared.call.Call.TheVariants as calls
 use Rattle.hs_types.specs.declared.call.Entry.{Entry}
 use Rattle.hs_plain.specs.declared.state.State.{State}
 use Rattle.hs_plain.specs.declared.state.FileBlocks.{FileBlocks}
-use Rattle.hs_plain.specs.Answer.{answer, asked, told, is_modifying, is_ok_reply, done, ticked, after, replay_from, replay, proper_from, may_follow, plain_after, is_proper}
+use Rattle.hs_plain.specs.Asked.{Asked}
+use Rattle.hs_plain.specs.Files.{Files, plain_files, block_files}
+use Rattle.hs_plain.specs.Answer.{answer, answer_by, asked, told, replied, mkdir_at, create_at, delete_at, rename_at, set_mode_at, made_reply, is_modifying, is_ok_reply}
+use Rattle.hs_plain.specs.Change.{change, changed_if, ticked, after, if_asked, made_dir, made_file, removed, renamed, with_mode}
+use Rattle.hs_plain.specs.Replay.{replay_from, proper_from, may_follow, plain_after, is_proper}
 use Rattle.hs_plain.specs.State.{start}
+use Rattle.hs_plain.specs.Valid.{IsSorted}
 use Rattle.hs_plain.specs.Legal.{accepted_entry, IsLegalCall, leaves_entry, is_plain_reply}
 use Rattle.hs_plain.specs.Faults.{IsFaultOf, told_reply}
 use Rattle.hs_plain.specs.declared.resolve.AskFault.{AskFault}
 use Rattle.hs_plain.specs.declared.resolve.AskFault.TheVariants.{Refused, NoMemory}
-use Rattle.hs_plain.specs.Lines.{size_of, tree_line, lines_of, tree_lines, counts_of}
-use Rattle.hs_plain.specs.Tree.{Tree, is_dir_body}
+use Rattle.hs_plain.specs.Lines.{tree_line, lines_of, tree_lines, counts_of}
+use Rattle.hs_plain.specs.Tree.{Tree, path_cmp, is_dir_body, size_of}
+use Rattle.hs_plain.specs.declared.state.Member.{Member}
 use Rattle.hs_plain.specs.declared.state.Node.{Node}
 use Rattle.hs_plain.specs.declared.state.Body.{Body}
 use Rattle.hs_plain.specs.declared.state.Body.TheVariants.{File, Dir}
 use Rattle.hs_plain.specs.Viewed.{viewed, viewed_tree, viewed_place, viewed_body, viewed_member, KeepsSizes, StandsFor}
-use Rattle.hs_plain.proofs.Viewed.{answer-viewed, done-viewed, listing-viewed}
+use Rattle.hs_plain.proofs.ValidTrees.{sorted-change, if_asked-keeps}
+use Rattle.hs_plain.proofs.Viewed.{answer-viewed, listing-viewed}
+use Rattle.hs_plain.proofs.ViewedChange.{change-viewed}
 use Rattle.namenode_write.specs.Consistent.{IsConsistent}
 
 -- zeros of the right number: one way to read a file, which serves where no byte is looked at
@@ -34,31 +46,59 @@ zeros_keep : KeepsSizes zeros
 unfolding zeros
 zeros_keep file = length-replicate file.size 0
 
-pub answer_stands : (state : State FileBlocks) (plain : State (List ℕ)) → StandsFor state plain → (call : Call) → answer plain call ≡ answer state call
-answer_stands state plain stands call = ap (λ (s : State (List ℕ)). answer s call) (sym (stands zeros zeros_keep)) ∙ answer-viewed zeros state call
+pub answer_stands : (state : State FileBlocks) (plain : State (List ℕ)) → StandsFor state plain → (call : Call) → answer plain call ≡ answer_by block_files state call
+answer_stands state plain stands call = ap (λ (s : State (List ℕ)). answer s call) (sym (stands zeros zeros_keep)) ∙ answer-viewed zeros block_files plain_files zeros_keep state call
 
-replay_from-push : {B : Type 0} (state : State B) (entries : List Entry) (entry : Entry) → replay_from state (entries ++ entry ∷ []) ≡ after (replay_from state entries) entry
-replay_from-push state [] entry = refl
-replay_from-push state (e ∷ entries) entry = replay_from-push (after state e) entries entry
+no_bytes : (bytes : List ℕ) → length bytes ≡ 0 → bytes ≡ []
+no_bytes [] none = refl
+no_bytes (byte ∷ bytes) none = absurd (omega arith)
+
+-- a file without blocks reads as one without bytes
+empty_reads : (read : FileBlocks → List ℕ) → KeepsSizes read → read block_files.empty ≡ plain_files.empty
+empty_reads read sizes = no_bytes (read block_files.empty) (sizes block_files.empty)
+
+replay_from-push : {B : Type 0} (files : Files B) (state : State B) (entries : List Entry) (entry : Entry) → replay_from files state (entries ++ entry ∷ []) ≡ after files (replay_from files state entries) entry
+replay_from-push files state [] entry = refl
+replay_from-push files state (e ∷ entries) entry = replay_from-push files (after files state e) entries entry
 
 and_true : (a : Bool) → (a && true) ≡ a
 and_true true = refl
 and_true false = refl
 
+and_false : (a : Bool) → (a && false) ≡ false
+and_false true = refl
+and_false false = refl
+
 and_assoc : (a b c : Bool) → (a && (b && c)) ≡ (a && b && c)
 and_assoc true b c = refl
 and_assoc false b c = refl
 
-proper_from-push : {B : Type 0} (state : State B) (entries : List Entry) (entry : Entry) → proper_from state (entries ++ entry ∷ []) ≡ (proper_from state entries && may_follow (replay_from state entries) entry)
+proper_from-push : (state : State (List ℕ)) (entries : List Entry) (entry : Entry) → proper_from state (entries ++ entry ∷ []) ≡ (proper_from state entries && may_follow (replay_from plain_files state entries) entry)
 proper_from-push state [] entry = and_true (may_follow state entry)
 proper_from-push state (e ∷ entries) entry =
-    ap (λ b. may_follow state e && b) (proper_from-push (after state e) entries entry)
-    ∙ and_assoc (may_follow state e) (proper_from (after state e) entries) (may_follow (replay_from (after state e) entries) entry)
+    ap (λ b. may_follow state e && b) (proper_from-push (after plain_files state e) entries entry)
+    ∙ and_assoc (may_follow state e) (proper_from (after plain_files state e) entries) (may_follow (replay_from plain_files (after plain_files state e) entries) entry)
+
+-- no call changes a snapshot
+members-kept : {B : Type 0} (files : Files B) (state : State B) (call : Call) → (change files state call).members ≡ state.members
+members-kept {B} files state (calls.Mkdir path) = if_asked-keeps (λ (s : State B). s.members ≡ state.members) (made_dir state) state (mkdir_at state path) refl (λ x is. refl)
+members-kept {B} files state (calls.Create path over) = if_asked-keeps (λ (s : State B). s.members ≡ state.members) (made_file files state) state (create_at state path over) refl (λ x is. refl)
+members-kept {B} files state (calls.Delete path recursive) = if_asked-keeps (λ (s : State B). s.members ≡ state.members) (removed state) state (delete_at state path recursive) refl (λ x is. refl)
+members-kept {B} files state (calls.Rename old new) = if_asked-keeps (λ (s : State B). s.members ≡ state.members) (renamed state) state (rename_at state old new) refl (λ x is. refl)
+members-kept {B} files state (calls.SetMode path mode) = if_asked-keeps (λ (s : State B). s.members ≡ state.members) (with_mode state mode) state (set_mode_at state path) refl (λ x is. refl)
+members-kept files state (calls.Stat path) = refl
+members-kept files state (calls.List path size) = refl
+
+orders-kept : {B : Type 0} (files : Files B) (state : State B) (call : Call) → IsSorted state → IsSorted (ticked (change files state call))
+orders-kept {B} files state call sorted = record {
+  live = sorted-change files state call sorted.live;
+  copies = ap (λ (members : List (Member B)). list_all (λ member. is_sorted path_cmp member.tree) members) (members-kept files state call) ∙ sorted.copies;
+}
 
 -- an accepted call leads on, and its entry may follow
 pub grown : (state new : State FileBlocks) (journal longer : List Entry) (caller : CallerId) (seq : ℕ) (call : Call) →
     IsConsistent state journal → longer ≡ journal ++ accepted_entry caller seq call ∷ [] →
-    is_modifying call ≡ true → is_ok_reply (answer state call) ≡ true → new ≡ ticked (done state call) → new.tick ≡ state.tick + 1 → new.next_inode ≤ state.next_inode + 1 →
+    is_modifying call ≡ true → is_ok_reply (answer_by block_files state call) ≡ true → new ≡ ticked (change block_files state call) → new.tick ≡ state.tick + 1 → new.next_inode ≤ state.next_inode + 1 →
     IsConsistent new longer
 grown state new journal longer caller seq call kept grows modifying ok steps tick inodes =
     let entry = accepted_entry caller seq call in
@@ -67,9 +107,9 @@ grown state new journal longer caller seq call kept grows modifying ok steps tic
     record {
       stands = λ read sizes.
           ap (viewed read) steps
-          ∙ ap ticked (sym (done-viewed read state call) ∙ ap (λ (s : State (List ℕ)). done s call) (kept.stands read sizes))
-          ∙ ap (λ b. ticked (cond b (done plain call) plain)) (sym modifying)
-          ∙ sym (ap plain_after grows ∙ replay_from-push start journal entry);
+          ∙ ap ticked (sym (change-viewed read block_files plain_files (empty_reads read sizes) state call) ∙ ap (λ (s : State (List ℕ)). change plain_files s call) (kept.stands read sizes))
+          ∙ ap (λ b. ticked (changed_if b plain_files plain call)) (sym modifying)
+          ∙ sym (ap plain_after grows ∙ replay_from-push plain_files start journal entry);
       proper =
           ap is_proper grows
           ∙ proper_from-push start journal entry
@@ -78,16 +118,41 @@ grown state new journal longer caller seq call kept grows modifying ok steps tic
           ∙ ap is_ok_reply (answer_stands state plain kept.stands call) ∙ ok;
       tick = omega (arith, one_more, kept.tick, tick);
       inodes = omega (arith, one_more, kept.inodes, inodes);
+      sorted = subst IsSorted (sym steps) (orders-kept block_files state call kept.sorted);
     }
 
+-- ---- answers of a modifying call
+
+-- a call that is done is answered so
+replied_ok : {X : Type 0} (reply given : Reply) (at : Asked X) → replied reply at ≡ Ok given → is_ok_reply reply ≡ true → is_ok_reply given ≡ true
+replied_ok reply given (Ok x) is ok = ap is_ok_reply (cc) ∙ ok
+replied_ok reply given (Err why) is ok = absurd (cc)
+
+pub done_ok : (state : State FileBlocks) (call : Call) (reply : Reply) → is_modifying call ≡ true → asked block_files state call ≡ Ok reply → is_ok_reply reply ≡ true
+done_ok state (calls.Mkdir path) reply modifying is = replied_ok (made_reply state) reply (mkdir_at state path) is refl
+done_ok state (calls.Create path over) reply modifying is = replied_ok (made_reply state) reply (create_at state path over) is refl
+done_ok state (calls.Delete path recursive) reply modifying is = replied_ok replies.Done reply (delete_at state path recursive) is refl
+done_ok state (calls.Rename old new) reply modifying is = replied_ok replies.Done reply (rename_at state old new) is refl
+done_ok state (calls.SetMode path mode) reply modifying is = replied_ok replies.Done reply (set_mode_at state path) is refl
+done_ok state (calls.Stat path) reply modifying is = absurd (cc)
+done_ok state (calls.List path size) reply modifying is = absurd (cc)
+
+pub done_leaves : (state : State FileBlocks) (call : Call) (reply : Reply) → is_modifying call ≡ true → asked block_files state call ≡ Ok reply → leaves_entry call reply ≡ true
+done_leaves state call reply modifying is = ap (λ b. b && is_ok_reply reply) modifying ∙ done_ok state call reply modifying is
+
+-- a call that isn't done leaves no entry
+pub fault_leaves_none : (call : Call) (fault : AskFault) → leaves_entry call (told_reply (Err fault)) ≡ false
+fault_leaves_none call (Refused why) = and_false (is_modifying call)
+fault_leaves_none call NoMemory = and_false (is_modifying call)
+
 -- a refusal that was told is the plain machine's
-pub refused_right : (state : State FileBlocks) (call : Call) (fault : AskFault) → IsFaultOf (asked state call) fault → is_plain_reply (told_reply (Err fault)) ≡ true → told_reply (Err fault) ≡ answer state call
+pub refused_right : (state : State FileBlocks) (call : Call) (fault : AskFault) → IsFaultOf (asked block_files state call) fault → is_plain_reply (told_reply (Err fault)) ≡ true → told_reply (Err fault) ≡ answer_by block_files state call
 refused_right state call (Refused why) is plain = ap told (sym is)
 refused_right state call NoMemory is plain = absurd (cc)
 
 -- the root alone is the state of an empty journal
 pub begun : IsConsistent start []
-begun = record { stands = λ read sizes. refl; proper = refl; tick = refl; inodes = omega arith }
+begun = record { stands = λ read sizes. refl; proper = refl; tick = refl; inodes = omega arith; sorted = record { live = refl; copies = refl } }
 
 -- ---- answers at the end of a journal
 

@@ -3,7 +3,8 @@ use Rattle.std.specs.Prelude.{◌≡◌, ℕ, ◌+◌, ◌≤◌, true, List, le
 use Rattle.hs_types.specs.declared.call.Entry.{Entry}
 use Rattle.hs_plain.specs.declared.state.State.{State}
 use Rattle.hs_plain.specs.declared.state.FileBlocks.{FileBlocks}
-use Rattle.hs_plain.specs.Answer.{plain_after, is_proper}
+use Rattle.hs_plain.specs.Replay.{plain_after, is_proper}
+use Rattle.hs_plain.specs.Valid.{IsSorted}
 use Rattle.hs_plain.specs.Viewed.{StandsFor}
 
 -- the state is that of the journal, and the journal is one that a namenode may have
@@ -12,3 +13,4 @@ pub record IsConsistent (state : State FileBlocks) (journal : List Entry) : Type
   pub proper : is_proper journal ≡ true
   pub tick : state.tick ≡ length journal
   pub inodes : state.next_inode ≤ length journal + 2
+  pub sorted : IsSorted state

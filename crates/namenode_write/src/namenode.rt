@@ -1,21 +1,24 @@
 //! The namenode, and the calls that change it.
-ghost use Rattle.std.specs.Prelude.{◌≡◌, ◌≢◌, ◌+◌, ◌<◌, ◌≤◌, ◌^◌, ◌++◌, true, [], ◌∷◌, length, Ok, Err, IfOk, IfErr, OnOk, OnErr, Some, None, false, vec_len, vec_capacity};
+ghost use Rattle.std.specs.Prelude.{◌≡◌, ◌+◌, ◌<◌, ◌≤◌, ◌^◌, ◌++◌, true, [], ◌∷◌, length, Ok, Err, IfOk, IfErr, OnOk, OnErr, false, vec_len, vec_capacity};
 ghost use Rattle.std.specs.Option.{option_to_list};
-ghost use Rattle.hs_types.specs.declared.call.Call.TheVariants as calls;
-ghost use Rattle.hs_plain.specs.Answer.{answer, asked, plain_after, is_proper, done, ticked, is_exclusive, is_shared};
+ghost use Rattle.hs_plain.specs.Files.{block_files};
+ghost use Rattle.hs_plain.specs.Answer.{answer, asked, is_exclusive};
+ghost use Rattle.hs_plain.specs.Change.{change, ticked};
+ghost use Rattle.hs_plain.specs.Replay.{plain_after, is_proper};
+ghost use Rattle.hs_plain.specs.Valid.{IsSorted};
+ghost use Rattle.hs_plain.specs.Viewed.{StandsFor};
 ghost use Rattle.hs_plain.specs.Legal.{IsLegalCall, entry_left, accepted_entry, leaves_entry, is_plain_reply};
 ghost use Rattle.hs_plain.specs.Faults.{IsFaultOf};
-ghost use Rattle.namenode_write.specs.Consistent.{IsConsistent};
 ghost use Rattle.hs_plain.specs.Lines.{tree_lines as plain_tree_lines, counts_of as plain_counts_of};
+ghost use Rattle.namenode_write.specs.Consistent.{IsConsistent};
 
-use hs_plain::answer::{list_page, live_path, may_make, reply_of};
-use hs_plain::change::make_dir;
+use hs_plain::answer::reply_of;
+use hs_plain::change::make_change;
 use hs_plain::lines::lines_of;
 use hs_plain::replay::start;
 use hs_plain::{AskFault, WholeState};
 use hs_types::{
-    Answered, Call, CallerId, Counts, Entry, EntryKind, InodeId, List, NoMemory, PageSize,
-    PathText, Reply, TreeLine,
+    Answered, Call, CallerId, Counts, Entry, EntryKind, List, NoMemory, Reply, TreeLine,
 };
 use std::alloc::Global;
 use std::marker::Model;
@@ -40,33 +43,31 @@ impl Model for Namenode {
     ghost invariant = { λ n. IsConsistent n.state n.journal };
 }
 
-/// Makes a directory, if the plain machine does, and makes room for the entry first.
-fn make_dir_at(
+/// Makes a call's change, where it isn't refused, and room for its entry first.
+fn change_with_room(
     alloc: Global,
     state: &mut WholeState,
     journal: &mut Vec<Entry>,
-    path: &PathText,
-) -> Result<InodeId, AskFault>
+    call: &Call,
+) -> Result<Reply, AskFault>
+    requires exclusive { is_exclusive call.now ≡ true }
     requires ticks { state.old.tick + 1 < 2 ^ 64 }
     requires inodes { state.old.next_inode + 1 < 2 ^ 64 }
-    ensures made { IfOk result (λ id. answer state.old (calls.Mkdir path.now) ≡ Reply.Made id) }
-    ensures done { OnOk result (state.new ≡ ticked (done state.old (calls.Mkdir path.now))) }
+    ensures reply { IfOk result (λ reply. asked block_files state.old call.now ≡ Ok reply) }
+    ensures changed { OnOk result (state.new ≡ ticked (change block_files state.old call.now)) }
     ensures room { OnOk result (vec_len journal.new < vec_capacity journal.new) }
     ensures inodes { OnOk result (state.new.next_inode ≤ state.old.next_inode + 1) }
     ensures tick { OnOk result (state.new.tick ≡ state.old.tick + 1) }
-    ensures refused { IfErr result (IsFaultOf (asked state.old (calls.Mkdir path.now))) }
+    ensures fault { IfErr result (IsFaultOf (asked block_files state.old call.now)) }
     ensures unchanged { OnErr result (state.new ≡ state.old) }
     ensures journal { journal.new.items ≡ journal.old.items }
 {
     if journal.reserve(1).is_err() {
         return Err(AskFault::NoMemory);
     }
-    let path = live_path(alloc, path)?;
-    may_make(state, path.items())?;
-    let id = InodeId(state.next_inode);
-    make_dir(state, path)?;
+    let reply = make_change(alloc, state, call)?;
     state.tick += 1;
-    Ok(id)
+    Ok(reply)
 }
 
 /// Enters an accepted call in the journal.
@@ -115,34 +116,26 @@ fn handed_back(journal: &[Entry], caller: CallerId, seq: u64, call: Call, reply:
     }
 }
 
-/// Makes a directory and enters the call in the journal, or hands the call back.
-fn do_mkdir(
+/// Makes the change of a call and enters it in the journal, or hands the call back.
+fn do_in(
     alloc: Global,
     state: &mut WholeState,
     journal: &mut Vec<Entry>,
     caller: CallerId,
     seq: u64,
-    path: PathText,
+    call: Call,
 ) -> Answered
-    requires { IsConsistent state.old journal.old.items }
-    ensures legal { IsLegalCall journal.new.items caller seq (calls.Mkdir path) result }
+    requires exclusive { is_exclusive call ≡ true }
+    requires consistent { IsConsistent state.old journal.old.items }
+    ensures legal { IsLegalCall journal.new.items caller seq call result }
     ensures place { result.position ≡ length journal.old.items }
-    ensures appended { journal.new.items ≡ journal.old.items ++ option_to_list (entry_left caller (record { seq = seq; call = calls.Mkdir path; told = result })) }
+    ensures appended { journal.new.items ≡ journal.old.items ++ option_to_list (entry_left caller (record { seq = seq; call = call; told = result })) }
     ensures consistent { IsConsistent state.new journal.new.items }
 {
-    let made = make_dir_at(alloc, state, journal, &path);
-    let call = Call::Mkdir { path };
-    match made {
-        Ok(id) => accepted(journal, caller, seq, call, Reply::Made { id }),
+    match change_with_room(alloc, state, journal, &call) {
+        Ok(reply) => accepted(journal, caller, seq, call, reply),
         Err(fault) => handed_back(journal.as_slice(), caller, seq, call, reply_of(Err(fault))),
     }
-}
-
-/// The first page of a listing, or why there is none.
-fn list_at(alloc: Global, state: &WholeState, path: &PathText, size: PageSize) -> Reply
-    ensures { result ≢ Reply.NoMemory → result ≡ answer state.now (calls.List path.now size) }
-{
-    reply_of(list_page(alloc, state, path, size))
 }
 
 /// How much a state holds.
@@ -183,33 +176,26 @@ impl Namenode {
         // The journal has this call's entry more, or is as before.
         ensures appended { self.new.entries ≡ self.old.entries ++ option_to_list (entry_left caller (record { seq = seq; call = call; told = result })) }
     {
-        match call {
-            Call::Mkdir { path } => {
-                let mut journal = self.journal.take();
-                let answered = do_mkdir(
-                    self.alloc,
-                    &mut self.state,
-                    &mut journal,
-                    caller,
-                    seq,
-                    path,
-                );
-                self.journal = List::of(journal);
-                answered
-            }
-            Call::List { .. } => unreachable!(),
-        }
+        let mut journal = self.journal.take();
+        let answered = do_in(
+            self.alloc,
+            &mut self.state,
+            &mut journal,
+            caller,
+            seq,
+            call,
+        );
+        self.journal = List::of(journal);
+        answered
     }
 
-    /// Answers a shared call, which leaves no entry.
-    pub fn ask(&self, call: &Call) -> Reply
-        requires { is_shared call.now ≡ true }
-        ensures { result ≢ Reply.NoMemory → result ≡ answer (plain_after self.now.entries) call.now }
+    /// The state that the journal has led to. A file is a size and blocks: whatever bytes a store has in
+    /// them, with these it is the plain machine's state.
+    pub fn state(&self) -> &WholeState
+        ensures stands { StandsFor result.now (plain_after self.now.entries) }
+        ensures sorted { IsSorted result.now }
     {
-        match call {
-            Call::List { path, size } => list_at(self.alloc, &self.state, path, *size),
-            Call::Mkdir { .. } => unreachable!(),
-        }
+        &self.state
     }
 
     /// The entries so far, the first first.

@@ -1,5 +1,5 @@
 use Rattle.std.proofs.Common.{ap, ◌∙◌}
-use Rattle.hs_plain.specs.Answer.{plain_after}
+use Rattle.hs_plain.specs.Replay.{plain_after}
 use Rattle.hs_plain.specs.Lines.{counts_of}
 use Rattle.namenode_write.specs.Journal.{Journal}
 use Rattle.namenode_write.proofs.Grown.{counts_stand}

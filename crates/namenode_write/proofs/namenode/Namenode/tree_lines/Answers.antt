@@ -1,7 +1,7 @@
 use Rattle.std.proofs.Common.{ap, ◌∙◌}
 use Rattle.std.proofs.lemmas.Result.{IfOk-weaker}
 use Rattle.hs_plain.specs.declared.state.FileBlocks.{FileBlocks}
-use Rattle.hs_plain.specs.Answer.{plain_after}
+use Rattle.hs_plain.specs.Replay.{plain_after}
 use Rattle.hs_plain.specs.Tree.{Tree}
 use Rattle.hs_plain.specs.Lines.{lines_of, tree_lines}
 use Rattle.namenode_write.specs.Journal.{Journal}

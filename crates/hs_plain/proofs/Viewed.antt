@@ -1,0 +1,350 @@
+-- The plain machine looks at no file but for its size, so a state with files kept in another way answers alike.
+use Rattle.std.proofs.Common.{◌≡◌, ℕ, ◌+◌, ◌&&◌, ◌==◌, bytes_eq, Bool, true, false, cond, Option, Some, None, Ok, Err, is_some, List, [], ◌∷◌, ◌++◌, map, length, refl, ap, ◌∙◌}
+use Rattle.std.specs.Prelude.{not, nat_lt}
+use Rattle.std.specs.Option.{option_map}
+use Rattle.std.specs.List.{cons_option}
+use Rattle.std.proofs.lemmas.List.Folds.{fold-map}
+use Rattle.std.specs.Ordering.{eq_by_cmp}
+use Rattle.hs_types.specs.Names.{Names}
+use Rattle.hs_types.specs.Paths.{path_of}
+use Rattle.hs_types.specs.declared.ids.InodeId.{InodeId}
+use Rattle.hs_types.specs.declared.ids.SnapId.{SnapId}
+use Rattle.hs_types.specs.declared.path.Path.{Path}
+use Rattle.hs_types.specs.declared.path.PathTail.{PathTail}
+use Rattle.hs_types.specs.declared.path.PathTail.TheVariants.{Plain, SnapshotList, Frozen}
+use Rattle.hs_types.specs.declared.call.Refusal.TheVariants.{NotFound, NotDir, NotFile, Exists, IsRoot, NotEmpty, IntoItself}
+use Rattle.hs_types.specs.declared.call.Reply.{Reply}
+use Rattle.hs_types.specs.declared.call.Reply.TheVariants as replies
+use Rattle.hs_types.specs.declared.call.Place.{Place}
+use Rattle.hs_types.specs.declared.call.Place.TheVariants as places
+use Rattle.hs_types.specs.declared.call.Item.{Item}
+use Rattle.hs_types.specs.declared.call.Call.{Call}
+use Rattle.hs_types.specs.declared.call.Call.TheVariants as calls
+use Rattle.hs_plain.specs.declared.state.Node.{Node}
+use Rattle.hs_plain.specs.declared.state.Body.{Body}
+use Rattle.hs_plain.specs.declared.state.Body.TheVariants.{File, Dir}
+use Rattle.hs_plain.specs.declared.state.Member.{Member}
+use Rattle.hs_plain.specs.declared.state.State.{State}
+use Rattle.hs_plain.specs.Asked.{Asked, ◌>>=◌, refuse_if, both}
+use Rattle.hs_plain.specs.Files.{Files}
+use Rattle.hs_plain.specs.Tree.{Tree, path_cmp, node_at, is_dir_body, is_dir, passes, walks_from, walks_above, found, walk, child_item, named_item, name_below, listing, child_count, size_of, is_root_path, is_above}
+use Rattle.hs_plain.specs.State.{is_snapshottable, if_snapshottable, snapshot_root, member_named, member_with, resolve, resolve_tail, same_inode, place_of, items_of, items_at, snapshot_items, with_item, snapshots_of}
+use Rattle.hs_plain.specs.Answer.{page_of, live_path, mkdir_at, takes_place_of, create_at, spares_children, delete_at, may_move, rename_at, set_mode_at, list_reply, node_stat, list_stat, stat_at, stat_reply, made_reply, replied, asked, told, answer_by}
+use Rattle.hs_plain.specs.Viewed.{viewed_body, viewed_node, viewed_place, viewed_tree, viewed_member, viewed}
+
+-- one test after another answers alike, where its answers do
+pub then-same : {X Y : Type 0} (asked : Asked X) (f g : X → Asked Y) → ((x : X) → f x ≡ g x) → (asked >>= f) ≡ (asked >>= g)
+then-same (Ok x) f g same = same x
+then-same (Err why) f g same = refl
+
+-- the place in a snapshot's copied tree
+abbrev frozen_at : {B : Type 0} → Names → Member B → Asked Place
+frozen_at rest member = walk member.tree rest >>= λ node. Ok (places.Frozen node.id member.snapshot)
+
+-- ---- the tests of the modifying calls, at a path
+
+abbrev makes : {B : Type 0} → Tree B → Names → Asked Names
+makes tree path = do
+  above ← walks_above tree path
+  free ← refuse_if (is_some (node_at tree path)) Exists
+  Ok path
+
+abbrev creates : {B : Type 0} → Tree B → Bool → Names → Asked Names
+creates tree over path = do
+  above ← walks_above tree path
+  free ← takes_place_of over (node_at tree path)
+  Ok path
+
+abbrev deletes : {B : Type 0} → Tree B → Bool → Names → Asked Names
+deletes tree recursive path = do
+  node ← walk tree path
+  below ← refuse_if (is_root_path path) IsRoot
+  alone ← refuse_if (spares_children tree path recursive) NotEmpty
+  Ok path
+
+abbrev moves : {B : Type 0} → Tree B → Names × Names → Asked (Names × Names)
+moves tree paths = do
+  apart ← may_move tree paths.0 paths.1
+  Ok paths
+
+abbrev sets_mode : {B : Type 0} → Tree B → Names → Asked Names
+sets_mode tree path = do
+  node ← walk tree path
+  Ok path
+
+module _ {A B : Type 0} (read : A → B) where
+  is_dir_body-viewed : (body : Body A) → is_dir_body (viewed_body read body) ≡ is_dir_body body
+  is_dir_body-viewed (File file) = refl
+  is_dir_body-viewed Dir = refl
+
+  pub node_at-viewed : (tree : Tree A) (path : Names) → node_at (viewed_tree read tree) path ≡ option_map (viewed_node read) (node_at tree path)
+  node_at-viewed [] path = refl
+  node_at-viewed (place ∷ tree) path =
+      elim (eq_by_cmp path_cmp path place.0) as (λ b. cond b (Some (viewed_node read place.1)) (node_at (viewed_tree read tree) path) ≡ option_map (viewed_node read) (cond b (Some place.1) (node_at tree path))) [
+        | true ↦ refl
+        | false ↦ node_at-viewed tree path
+      ]
+
+  passes-viewed : (node : Option (Node A)) → passes (option_map (viewed_node read) node) ≡ passes node
+  passes-viewed None = refl
+  passes-viewed (Some node) = ap (λ b. cond b (Ok tt) (Err NotDir)) (is_dir_body-viewed node.body)
+
+  walks_from-viewed : (tree : Tree A) (here path : Names) → walks_from (viewed_tree read tree) here path ≡ walks_from tree here path
+  walks_from-viewed tree here [] = refl
+  walks_from-viewed tree here (name ∷ path) =
+      ap (λ (w : Asked (Unit {0})). passes (node_at (viewed_tree read tree) here) >>= λ _. w) (walks_from-viewed tree (here ++ name ∷ []) path)
+      ∙ ap (λ (p : Asked (Unit {0})). p >>= λ _. walks_from tree (here ++ name ∷ []) path) (ap passes (node_at-viewed tree here) ∙ passes-viewed (node_at tree here))
+
+  pub is_some-viewed : (node : Option (Node A)) → is_some (option_map (viewed_node read) node) ≡ is_some node
+  is_some-viewed None = refl
+  is_some-viewed (Some node) = refl
+
+  -- a node, read
+  abbrev viewed_found : Asked (Node A) → Asked (Node B)
+  viewed_found (Ok node) = Ok (viewed_node read node)
+  viewed_found (Err why) = Err why
+
+  found-viewed : (node : Option (Node A)) → found (option_map (viewed_node read) node) ≡ viewed_found (found node)
+  found-viewed None = refl
+  found-viewed (Some node) = refl
+
+  then-viewed : (w : Asked (Unit {0})) (node : Asked (Node A)) → (w >>= λ _. viewed_found node) ≡ viewed_found (w >>= λ _. node)
+  then-viewed (Ok u) node = refl
+  then-viewed (Err why) node = refl
+
+  walk-viewed : (tree : Tree A) (path : Names) → walk (viewed_tree read tree) path ≡ viewed_found (walk tree path)
+  walk-viewed tree path =
+      ap (λ (w : Asked (Unit {0})). w >>= λ _. found (node_at (viewed_tree read tree) path)) (walks_from-viewed tree [] path)
+      ∙ ap (λ (n : Asked (Node B)). walks_above tree path >>= λ _. n) (ap found (node_at-viewed tree path) ∙ found-viewed (node_at tree path))
+      ∙ then-viewed (walks_above tree path) (found (node_at tree path))
+
+  -- what is asked of a node's id doesn't depend on how files are kept
+  id-viewed : {X : Type 0} (f : InodeId → Asked X) (node : Asked (Node A)) → (viewed_found node >>= λ n. f n.id) ≡ (node >>= λ n. f n.id)
+  id-viewed f (Ok node) = refl
+  id-viewed f (Err why) = refl
+
+  if_snapshottable-viewed : (state : State A) (node : Option (Node A)) → if_snapshottable (viewed read state) (option_map (viewed_node read) node) ≡ if_snapshottable state node
+  if_snapshottable-viewed state None = refl
+  if_snapshottable-viewed state (Some node) = refl
+
+  snapshot_root-viewed : (state : State A) (base : Names) → snapshot_root (viewed read state) base ≡ snapshot_root state base
+  snapshot_root-viewed state base = ap (if_snapshottable (viewed read state)) (node_at-viewed state.tree base) ∙ if_snapshottable-viewed state (node_at state.tree base)
+
+  abbrev viewed_named : Asked (Member A) → Asked (Member B)
+  viewed_named (Ok member) = Ok (viewed_member read member)
+  viewed_named (Err why) = Err why
+
+  member_named-viewed : (members : List (Member A)) (dir : InodeId) (name : List ℕ) → member_named (map (viewed_member read) members) dir name ≡ viewed_named (member_named members dir name)
+  member_named-viewed [] dir name = refl
+  member_named-viewed (m ∷ ms) dir name =
+      elim (same_inode m.directory dir && bytes_eq m.name name) as (λ b. cond b (Ok (viewed_member read m)) (member_named (map (viewed_member read) ms) dir name) ≡ viewed_named (cond b (Ok m) (member_named ms dir name))) [
+        | true ↦ refl
+        | false ↦ member_named-viewed ms dir name
+      ]
+
+  member_with-viewed : (members : List (Member A)) (snapshot : SnapId) → member_with (map (viewed_member read) members) snapshot ≡ viewed_named (member_with members snapshot)
+  member_with-viewed [] snapshot = refl
+  member_with-viewed (m ∷ ms) snapshot =
+      elim (m.snapshot.0 == snapshot.0) as (λ b. cond b (Ok (viewed_member read m)) (member_with (map (viewed_member read) ms) snapshot) ≡ viewed_named (cond b (Ok m) (member_with ms snapshot))) [
+        | true ↦ refl
+        | false ↦ member_with-viewed ms snapshot
+      ]
+
+  below-viewed : (rest : Names) (member : Asked (Member A)) → (viewed_named member >>= frozen_at rest) ≡ (member >>= frozen_at rest)
+  below-viewed rest (Err why) = refl
+  below-viewed rest (Ok m) =
+      ap (λ (w : Asked (Node B)). w >>= λ node. Ok (places.Frozen node.id m.snapshot)) (walk-viewed m.tree rest)
+      ∙ id-viewed (λ id. Ok (places.Frozen id m.snapshot)) (walk m.tree rest)
+
+  resolve_tail-viewed : (state : State A) (base : Names) (tail : PathTail) → resolve_tail (viewed read state) base tail ≡ resolve_tail state base tail
+  resolve_tail-viewed state base Plain =
+      ap (λ (w : Asked (Node B)). w >>= λ node. Ok (places.Live node.id)) (walk-viewed state.tree base) ∙ id-viewed (λ id. Ok (places.Live id)) (walk state.tree base)
+  resolve_tail-viewed state base SnapshotList = ap (λ (d : Asked InodeId). d >>= λ dir. Ok (places.SnapshotsOf dir)) (snapshot_root-viewed state base)
+  resolve_tail-viewed state base (Frozen snapshot rest) =
+      ap (λ (d : Asked InodeId). d >>= λ dir. (member_named (map (viewed_member read) state.members) dir snapshot >>= frozen_at rest)) (snapshot_root-viewed state base)
+      ∙ then-same (snapshot_root state base) (λ dir. member_named (map (viewed_member read) state.members) dir snapshot >>= frozen_at rest) (λ dir. member_named state.members dir snapshot >>= frozen_at rest)
+      (λ dir. ap (λ (m : Asked (Member B)). m >>= frozen_at rest) (member_named-viewed state.members dir snapshot) ∙ below-viewed rest (member_named state.members dir snapshot))
+
+  pub resolve-viewed : (state : State A) (path : Path) → resolve (viewed read state) path ≡ resolve state path
+  resolve-viewed state path = resolve_tail-viewed state path.base path.tail
+
+  item-viewed : (node : Node A) (name : Option (List ℕ)) → named_item (viewed_node read node) name ≡ named_item node name
+  item-viewed node None = refl
+  item-viewed node (Some name) = ap (λ b. Some (record { name = name; id = node.id; is_dir = b })) (is_dir_body-viewed node.body)
+
+  pub listing-viewed : (tree : Tree A) (dir : Names) → listing (viewed_tree read tree) dir ≡ listing tree dir
+  listing-viewed [] dir = refl
+  listing-viewed (place ∷ tree) dir =
+      ap (λ (o : Option Item). cons_option o (listing (viewed_tree read tree) dir)) (item-viewed place.1 (name_below dir place.0))
+      ∙ ap (cons_option (child_item dir place)) (listing-viewed tree dir)
+
+  pub place_of-viewed : (tree : Tree A) (id : InodeId) → place_of (viewed_tree read tree) id ≡ option_map (viewed_place read) (place_of tree id)
+  place_of-viewed [] id = refl
+  place_of-viewed (place ∷ tree) id =
+      elim (same_inode place.1.id id) as (λ b. cond b (Some (viewed_place read place)) (place_of (viewed_tree read tree) id) ≡ option_map (viewed_place read) (cond b (Some place) (place_of tree id))) [
+        | true ↦ refl
+        | false ↦ place_of-viewed tree id
+      ]
+
+  items_of-viewed : (tree : Tree A) (place : Option (Names × Node A)) → items_of (viewed_tree read tree) (option_map (viewed_place read) place) ≡ items_of tree place
+  items_of-viewed tree None = refl
+  items_of-viewed tree (Some place) =
+      ap (λ b. cond b (Ok (listing (viewed_tree read tree) place.0)) (Err NotDir)) (is_dir_body-viewed place.1.body)
+      ∙ ap (λ (items : List Item). cond (is_dir place.1) (Ok items) (Err NotDir)) (listing-viewed tree place.0)
+
+  directory-viewed : (tree : Tree A) (id : InodeId) → items_of (viewed_tree read tree) (place_of (viewed_tree read tree) id) ≡ items_of tree (place_of tree id)
+  directory-viewed tree id = ap (items_of (viewed_tree read tree)) (place_of-viewed tree id) ∙ items_of-viewed tree (place_of tree id)
+
+  snapshot_items-viewed : (members : List (Member A)) (dir : InodeId) → snapshot_items (map (viewed_member read) members) dir ≡ snapshot_items members dir
+  snapshot_items-viewed [] dir = refl
+  snapshot_items-viewed (m ∷ ms) dir =
+      elim (same_inode m.directory dir) as (λ b. cond b (with_item (record { name = m.name; id = dir; is_dir = true }) (snapshot_items (map (viewed_member read) ms) dir)) (snapshot_items (map (viewed_member read) ms) dir)
+      ≡ cond b (with_item (record { name = m.name; id = dir; is_dir = true }) (snapshot_items ms dir)) (snapshot_items ms dir)) [
+        | true ↦ ap (with_item (record { name = m.name; id = dir; is_dir = true })) (snapshot_items-viewed ms dir)
+        | false ↦ snapshot_items-viewed ms dir
+      ]
+
+  frozen-viewed : (id : InodeId) (member : Asked (Member A)) → (viewed_named member >>= λ m. items_of m.tree (place_of m.tree id)) ≡ (member >>= λ m. items_of m.tree (place_of m.tree id))
+  frozen-viewed id (Err why) = refl
+  frozen-viewed id (Ok m) = directory-viewed m.tree id
+
+  pub items_at-viewed : (state : State A) (place : Place) → items_at (viewed read state) place ≡ items_at state place
+  items_at-viewed state (places.Live id) = directory-viewed state.tree id
+  items_at-viewed state (places.Frozen id snapshot) =
+      ap (λ (member : Asked (Member B)). member >>= λ m. items_of m.tree (place_of m.tree id)) (member_with-viewed state.members snapshot) ∙ frozen-viewed id (member_with state.members snapshot)
+  items_at-viewed state (places.SnapshotsOf dir) = ap (λ (items : List Item). cond (is_snapshottable state dir) (Ok items) (Err NotFound)) (snapshot_items-viewed state.members dir)
+
+  -- ---- modifying calls
+
+  -- tests that ask whether a node is there, and no more
+  seen-viewed : {X : Type 0} (node : Asked (Node A)) (next : Asked X) → (viewed_found node >>= λ _. next) ≡ (node >>= λ _. next)
+  seen-viewed (Ok node) next = refl
+  seen-viewed (Err why) next = refl
+
+  seen_walk-viewed : {X : Type 0} (tree : Tree A) (path : Names) (next : Asked X) → (walk (viewed_tree read tree) path >>= λ _. next) ≡ (walk tree path >>= λ _. next)
+  seen_walk-viewed tree path next = ap (λ (w : Asked (Node B)). w >>= λ _. next) (walk-viewed tree path) ∙ seen-viewed (walk tree path) next
+
+  both-viewed : {X : Type 0} (node : Asked (Node A)) (above : Asked (Unit {0})) (next : Asked X) → (both (viewed_found node) above >>= λ _. next) ≡ (both node above >>= λ _. next)
+  both-viewed (Ok node) (Ok above) next = refl
+  both-viewed (Ok node) (Err why) next = refl
+  both-viewed (Err why) (Ok above) next = refl
+  both-viewed (Err why) (Err other) next = refl
+
+  both_walks-viewed : {X : Type 0} (tree : Tree A) (old new : Names) (next : Asked X) →
+      (both (walk (viewed_tree read tree) old) (walks_above (viewed_tree read tree) new) >>= λ _. next) ≡ (both (walk tree old) (walks_above tree new) >>= λ _. next)
+  both_walks-viewed tree old new next =
+      ap (λ (w : Asked (Node B)). both w (walks_above (viewed_tree read tree) new) >>= λ _. next) (walk-viewed tree old)
+      ∙ ap (λ (w : Asked (Unit {0})). both (viewed_found (walk tree old)) w >>= λ _. next) (walks_from-viewed tree [] new)
+      ∙ both-viewed (walk tree old) (walks_above tree new) next
+
+  taken-viewed : (tree : Tree A) (path : Names) → is_some (node_at (viewed_tree read tree) path) ≡ is_some (node_at tree path)
+  taken-viewed tree path = ap is_some (node_at-viewed tree path) ∙ is_some-viewed (node_at tree path)
+
+  takes_place_of-viewed : (over : Bool) (node : Option (Node A)) → takes_place_of over (option_map (viewed_node read) node) ≡ takes_place_of over node
+  takes_place_of-viewed over None = refl
+  takes_place_of-viewed false (Some node) = refl
+  takes_place_of-viewed true (Some node) = ap (λ b. refuse_if b NotFile) (is_dir_body-viewed node.body)
+
+  makes-viewed : (tree : Tree A) (path : Names) → makes (viewed_tree read tree) path ≡ makes tree path
+  makes-viewed tree path =
+      ap (λ (w : Asked (Unit {0})). w >>= λ _. (refuse_if (is_some (node_at (viewed_tree read tree) path)) Exists >>= λ _. Ok path)) (walks_from-viewed tree [] path)
+      ∙ ap (λ b. walks_above tree path >>= λ _. (refuse_if b Exists >>= λ _. Ok path)) (taken-viewed tree path)
+
+  pub mkdir_at-viewed : (state : State A) (text : List ℕ) → mkdir_at (viewed read state) text ≡ mkdir_at state text
+  mkdir_at-viewed state text = then-same (live_path text) (makes (viewed_tree read state.tree)) (makes state.tree) (makes-viewed state.tree)
+
+  creates-viewed : (tree : Tree A) (over : Bool) (path : Names) → creates (viewed_tree read tree) over path ≡ creates tree over path
+  creates-viewed tree over path =
+      ap (λ (w : Asked (Unit {0})). w >>= λ _. (takes_place_of over (node_at (viewed_tree read tree) path) >>= λ _. Ok path)) (walks_from-viewed tree [] path)
+      ∙ ap (λ (t : Asked (Unit {0})). walks_above tree path >>= λ _. (t >>= λ _. Ok path)) (ap (takes_place_of over) (node_at-viewed tree path) ∙ takes_place_of-viewed over (node_at tree path))
+
+  pub create_at-viewed : (state : State A) (text : List ℕ) (over : Bool) → create_at (viewed read state) text over ≡ create_at state text over
+  create_at-viewed state text over = then-same (live_path text) (creates (viewed_tree read state.tree) over) (creates state.tree over) (creates-viewed state.tree over)
+
+  deletes-viewed : (tree : Tree A) (recursive : Bool) (path : Names) → deletes (viewed_tree read tree) recursive path ≡ deletes tree recursive path
+  deletes-viewed tree recursive path =
+      seen_walk-viewed tree path (refuse_if (is_root_path path) IsRoot >>= λ _. (refuse_if (spares_children (viewed_tree read tree) path recursive) NotEmpty >>= λ _. Ok path))
+      ∙ ap (λ n. walk tree path >>= λ _. (refuse_if (is_root_path path) IsRoot >>= λ _. (refuse_if (not recursive && nat_lt 0 n) NotEmpty >>= λ _. Ok path))) (ap length (listing-viewed tree path))
+
+  pub delete_at-viewed : (state : State A) (text : List ℕ) (recursive : Bool) → delete_at (viewed read state) text recursive ≡ delete_at state text recursive
+  delete_at-viewed state text recursive = then-same (live_path text) (deletes (viewed_tree read state.tree) recursive) (deletes state.tree recursive) (deletes-viewed state.tree recursive)
+
+  may_move-viewed : (tree : Tree A) (old new : Names) → may_move (viewed_tree read tree) old new ≡ may_move tree old new
+  may_move-viewed tree old new =
+      both_walks-viewed tree old new (refuse_if (is_some (node_at (viewed_tree read tree) new)) Exists >>= λ _. (refuse_if (is_root_path old) IsRoot >>= λ _. refuse_if (is_above old new) IntoItself))
+      ∙ ap (λ b. both (walk tree old) (walks_above tree new) >>= λ _. (refuse_if b Exists >>= λ _. (refuse_if (is_root_path old) IsRoot >>= λ _. refuse_if (is_above old new) IntoItself))) (taken-viewed tree new)
+
+  pub rename_at-viewed : (state : State A) (old new : List ℕ) → rename_at (viewed read state) old new ≡ rename_at state old new
+  rename_at-viewed state old new =
+      then-same (both (live_path old) (live_path new)) (moves (viewed_tree read state.tree)) (moves state.tree) (λ paths. ap (λ (apart : Asked (Unit {0})). apart >>= λ _. Ok paths) (may_move-viewed state.tree paths.0 paths.1))
+
+  pub set_mode_at-viewed : (state : State A) (text : List ℕ) → set_mode_at (viewed read state) text ≡ set_mode_at state text
+  set_mode_at-viewed state text = then-same (live_path text) (sets_mode (viewed_tree read state.tree)) (sets_mode state.tree) (λ path. seen_walk-viewed state.tree path (Ok path))
+
+  -- ---- reading calls
+
+  -- what is asked of the place at a path
+  at_place-viewed : (state : State A) (text : List ℕ) (f g : Place → Asked Reply) → ((place : Place) → f place ≡ g place) → (path_of text >>= λ path. (resolve (viewed read state) path >>= f)) ≡ (path_of text >>= λ path. (resolve state path >>= g))
+  at_place-viewed state text f g same =
+      then-same (path_of text) (λ path. resolve (viewed read state) path >>= f) (λ path. resolve state path >>= g)
+      (λ path. ap (λ (place : Asked Place). place >>= f) (resolve-viewed state path) ∙ then-same (resolve state path) f g same)
+
+  list_reply-viewed : (state : State A) (text : List ℕ) (size : ℕ) → list_reply (viewed read state) text size ≡ list_reply state text size
+  list_reply-viewed state text size =
+      at_place-viewed state text (λ place. items_at (viewed read state) place >>= λ items. Ok (page_of place items None size)) (λ place. items_at state place >>= λ items. Ok (page_of place items None size))
+      (λ place. ap (λ (items : Asked (List Item)). items >>= λ xs. Ok (page_of place xs None size)) (items_at-viewed state place))
+
+  snapshots_of-viewed : (members : List (Member A)) (dir : InodeId) → snapshots_of (map (viewed_member read) members) dir ≡ snapshots_of members dir
+  snapshots_of-viewed members dir = fold-map (λ n (m : Member B). n + cond (same_inode m.directory dir) 1 0) (viewed_member read) 0 members
+
+  list_stat-viewed : (snapshots : ℕ) (place : Option (Names × Node A)) → list_stat snapshots (option_map (viewed_place read) place) ≡ list_stat snapshots place
+  list_stat-viewed snapshots None = refl
+  list_stat-viewed snapshots (Some place) = refl
+
+  snapshots_stat-viewed : (state : State A) (dir : InodeId) → list_stat (snapshots_of (map (viewed_member read) state.members) dir) (place_of (viewed_tree read state.tree) dir) ≡ list_stat (snapshots_of state.members dir) (place_of state.tree dir)
+  snapshots_stat-viewed state dir =
+      ap (λ n. list_stat n (place_of (viewed_tree read state.tree) dir)) (snapshots_of-viewed state.members dir)
+      ∙ ap (list_stat (snapshots_of state.members dir)) (place_of-viewed state.tree dir)
+      ∙ list_stat-viewed (snapshots_of state.members dir) (place_of state.tree dir)
+
+-- ---- answers
+
+module _ {A B : Type 0} (read : A → B) (fa : Files A) (fb : Files B) (sizes : (file : A) → fb.size (read file) ≡ fa.size file) where
+  pub size_of-viewed : (tree : Tree A) (path : Names) (body : Body A) → size_of fb.size (viewed_tree read tree) path (viewed_body read body) ≡ size_of fa.size tree path body
+  size_of-viewed tree path (File file) = sizes file
+  size_of-viewed tree path Dir = ap length (listing-viewed read tree path)
+
+  node_stat-viewed : (tree : Tree A) (place : Option (Names × Node A)) → node_stat fb (viewed_tree read tree) (option_map (viewed_place read) place) ≡ node_stat fa tree place
+  node_stat-viewed tree None = refl
+  node_stat-viewed tree (Some place) =
+      let told : Bool → ℕ → Asked Reply = λ is_dir size. Ok (replies.Stat place.1.id is_dir place.1.mode place.1.stamp size) in
+      ap (λ b. told b (size_of fb.size (viewed_tree read tree) place.0 (viewed_body read place.1.body))) (is_dir_body-viewed read place.1.body)
+      ∙ ap (told (is_dir place.1)) (size_of-viewed tree place.0 place.1.body)
+
+  stat_of-viewed : (tree : Tree A) (id : InodeId) → node_stat fb (viewed_tree read tree) (place_of (viewed_tree read tree) id) ≡ node_stat fa tree (place_of tree id)
+  stat_of-viewed tree id = ap (node_stat fb (viewed_tree read tree)) (place_of-viewed read tree id) ∙ node_stat-viewed tree (place_of tree id)
+
+  frozen_stat-viewed : (id : InodeId) (member : Asked (Member A)) → (viewed_named read member >>= λ m. node_stat fb m.tree (place_of m.tree id)) ≡ (member >>= λ m. node_stat fa m.tree (place_of m.tree id))
+  frozen_stat-viewed id (Err why) = refl
+  frozen_stat-viewed id (Ok m) = stat_of-viewed m.tree id
+
+  stat_at-viewed : (state : State A) (place : Place) → stat_at fb (viewed read state) place ≡ stat_at fa state place
+  stat_at-viewed state (places.Live id) = stat_of-viewed state.tree id
+  stat_at-viewed state (places.Frozen id snapshot) =
+      ap (λ (member : Asked (Member B)). member >>= λ m. node_stat fb m.tree (place_of m.tree id)) (member_with-viewed read state.members snapshot) ∙ frozen_stat-viewed id (member_with state.members snapshot)
+  stat_at-viewed state (places.SnapshotsOf dir) = snapshots_stat-viewed read state dir
+
+  stat_reply-viewed : (state : State A) (text : List ℕ) → stat_reply fb (viewed read state) text ≡ stat_reply fa state text
+  stat_reply-viewed state text = at_place-viewed read state text (stat_at fb (viewed read state)) (stat_at fa state) (stat_at-viewed state)
+
+  pub asked-viewed : (state : State A) (call : Call) → asked fb (viewed read state) call ≡ asked fa state call
+  asked-viewed state (calls.Mkdir path) = ap (replied (made_reply state)) (mkdir_at-viewed read state path)
+  asked-viewed state (calls.Create path over) = ap (replied (made_reply state)) (create_at-viewed read state path over)
+  asked-viewed state (calls.Delete path recursive) = ap (replied replies.Done) (delete_at-viewed read state path recursive)
+  asked-viewed state (calls.Rename old new) = ap (replied replies.Done) (rename_at-viewed read state old new)
+  asked-viewed state (calls.SetMode path mode) = ap (replied replies.Done) (set_mode_at-viewed read state path)
+  asked-viewed state (calls.Stat path) = stat_reply-viewed state path
+  asked-viewed state (calls.List path size) = list_reply-viewed read state path size
+
+  pub answer-viewed : (state : State A) (call : Call) → answer_by fb (viewed read state) call ≡ answer_by fa state call
+  answer-viewed state call = ap told (asked-viewed state call)
