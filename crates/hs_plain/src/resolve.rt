@@ -60,7 +60,7 @@ fn snapshot_root<B>(state: &State<B>, base: &[Name]) -> Result<InodeId, Refusal>
 }
 
 /// The snapshot of a directory that has this name.
-fn member_named<'m, B>(
+pub fn member_named<'m, B>(
     members: &'m [Member<B>],
     directory: InodeId,
     name: &Name,

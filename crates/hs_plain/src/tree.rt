@@ -42,7 +42,7 @@ pub fn node_at<'t, B>(tree: &'t [(RelPath, Node<B>)], path: &[Name]) -> Option<&
 }
 
 /// A walk goes on below a directory alone.
-fn passes<B>(node: Option<&Node<B>>) -> Result<(), Refusal>
+pub fn passes<B>(node: Option<&Node<B>>) -> Result<(), Refusal>
     ensures { result ≡ plain_passes (option_copied node.entry) }
 {
     match node {

@@ -1,0 +1,20 @@
+-- The copied tree of a snapshot that is found by name is sorted.
+use Rattle.std.proofs.Common.{◌≡◌, ℕ, Bool, true, false, cond, ◌&&◌, List, [], ◌∷◌, Ok, refl, sym, ap, ◌∙◌}
+use Rattle.std.specs.Prelude.{bytes_eq}
+use Rattle.std.specs.List.{list_all}
+use Rattle.std.specs.FinMap.Entries.{is_sorted}
+use Rattle.hs_types.specs.declared.ids.InodeId.{InodeId}
+use Rattle.hs_plain.specs.declared.state.Member.{Member}
+use Rattle.hs_plain.specs.Asked.{Asked}
+use Rattle.hs_plain.specs.Tree.{path_cmp}
+use Rattle.hs_plain.specs.State.{same_inode, member_named}
+use Rattle.path_resolver.proofs.Halves.{first, second}
+
+pub member_named-sorted : {B : Type 0} (members : List (Member B)) (directory : InodeId) (name : List ℕ) (member : Member B) →
+    list_all (λ m. is_sorted path_cmp m.tree) members ≡ true → member_named members directory name ≡ Ok member → is_sorted path_cmp member.tree ≡ true
+member_named-sorted [] directory name member sorted found = absurd (cc)
+member_named-sorted (m ∷ ms) directory name member sorted found =
+    elim (same_inode m.directory directory && bytes_eq m.name name) as (λ b. cond b (Ok m) (member_named ms directory name) ≡ Ok member → is_sorted path_cmp member.tree ≡ true) [
+      | true ↦ λ e. let same : m ≡ member = cc in ap (λ x. is_sorted path_cmp x.tree) (sym same) ∙ first (is_sorted path_cmp m.tree) _ sorted
+      | false ↦ λ e. member_named-sorted ms directory name member (second (is_sorted path_cmp m.tree) _ sorted) e
+    ] found
