@@ -1,5 +1,9 @@
+pub mod Asked
+pub mod Both
+pub mod Ends
 pub mod ScriptLines
 pub mod ScriptModes
+pub mod ScriptPages
 pub mod ScriptWords
 pub mod Small
 pub mod TextModes

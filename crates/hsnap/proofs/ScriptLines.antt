@@ -5,6 +5,7 @@ use Rattle.std.specs.Str.{IsUtf8}
 use Rattle.std.proofs.lemmas.Str.{IsUtf8-from_ascii}
 use Rattle.std.proofs.lemmas.Bool.Decides.{nat_tests}
 use Rattle.hs_types.specs.declared.call.Call.{Call}
+use Rattle.hsnap.proofs.Both.{both_first, both_second}
 use Rattle.hsnap.specs.Script.{is_line_byte, call_of, calls_of, with_call, script_parts, script_of, at_most_1000, is_line_feed}
 
 module _ {A : Type 0} (p : A → Bool) where
@@ -53,14 +54,6 @@ module _ {A : Type 0} (p : A → Bool) where
 
 line_byte : (b : ℕ) → is_line_byte b ≡ true → b < 128
 line_byte b is = grind (arith, nat_tests)
-
-pub both_first : (a b : Bool) → (a && b) ≡ true → a ≡ true
-both_first true b e = refl
-both_first false b e = e
-
-pub both_second : (a b : Bool) → (a && b) ≡ true → b ≡ true
-both_second true b e = e
-both_second false b e = absurd (cc)
 
 all_ascii : (bs : List ℕ) → list_all is_line_byte bs ≡ true → (i : ℕ) → get_or bs i 0 < 128
 all_ascii [] all i = omega arith

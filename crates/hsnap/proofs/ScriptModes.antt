@@ -6,7 +6,7 @@ use Rattle.std.specs.Str.Parse.{AllDigits, IsNumeral, digits_value, without_lead
 use Rattle.std.proofs.lemmas.Int.Digits.{digits_value-lt}
 use Rattle.std.proofs.lemmas.Bool.Decides.{nat_tests}
 use Rattle.hsnap.specs.Script.{is_octal_digit, mode_of}
-use Rattle.hsnap.proofs.ScriptLines.{both_first, both_second}
+use Rattle.hsnap.proofs.Both.{both_first, both_second}
 
 octal_digit : (c : ℕ) → is_octal_digit c ≡ true → digit_value c < 8
 octal_digit c is =

@@ -1,6 +1,7 @@
 //! The reader of scripts in their first form.
 ghost use Rattle.std.specs.Prelude.{◌≡◌, ◌≢◌, ◌≤◌, ◌<◌, ◌∷◌, [], Some, None, IfOk, IfSome, IfNone, IfErr, true, false, length, map};
 ghost use Rattle.hsnap.specs.Script.{is_line_byte, is_full, words as plain_words, is_octal_digit, mode_of as plain_mode_of, path_call as plain_path_call, pair_call as plain_pair_call, call_of_command as plain_call_of_command, call_of_words as plain_call_of_words, call_of as plain_call_of, script_of, script_parts, with_call, is_line_feed};
+ghost use Rattle.hsnap.specs.Pages.{has_greatest_page};
 ghost use Rattle.hsnap.specs.ScriptFaults.{IsScriptFault};
 ghost use Rattle.hsnap.specs.declared.script.ScriptFault.TheVariants.{NoMemory as fault_no_memory};
 ghost use Rattle.std.specs.List.{slice_split, list_all, position};
@@ -223,6 +224,7 @@ const MOST_LINES: usize = 1000;
 /// Reads an input as a script.
 pub fn read(alloc: Global, bytes: &[u8]) -> Result<List<Call>, ScriptFault>
     ensures script { IfOk result (λ calls. script_of bytes.now ≡ Some calls) }
+    ensures pages { IfOk result (λ calls. list_all has_greatest_page calls ≡ true) }
     ensures bad { IfErr result (IsScriptFault (script_of bytes.now)) }
 {
     let mut calls = Vec::new(alloc);
