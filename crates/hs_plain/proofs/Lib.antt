@@ -1,6 +1,14 @@
 pub mod Growth
 pub mod Moves
 pub mod Ranks
+pub mod ValidAsked
+pub mod ValidChanges
+pub mod Validity
+pub mod ValidMoves
+pub mod ValidNodes
+pub mod ValidPlaces
+pub mod ValidRepaths
+pub mod ValidShapes
 pub mod ValidTrees
 pub mod Viewed
 pub mod ViewedChange
