@@ -1,6 +1,10 @@
+ghost use Rattle.std.specs.Prelude.{IfOk};
+ghost use Rattle.hs_plain.specs.Valid.{IsSorted};
+
 use crate::resolve;
 use hs_plain::PlainState;
 use hs_plain::answer::read_path;
+use hs_plain::laws::replay_is_valid;
 use hs_plain::replay::replay;
 use hs_types::{Call, CallerId, Entry, EntryKind, InodeId, List, PathText, Place, Refusal};
 use std::alloc::Global;
@@ -21,7 +25,10 @@ fn push(journal: &mut List<Entry>, call: Call) -> Result<(), Fail> {
 }
 
 /// A directory `/a` with a directory `b` and a file `f`.
-fn small_state(alloc: Global) -> Result<PlainState, Fail> {
+fn small_state(alloc: Global) -> Result<PlainState, Fail>
+    ensures { IfOk result (λ state. IsSorted state) }
+{
+    replay_is_valid();
     let mut journal = List::new(alloc);
     for path in ["/a", "/a/b"] {
         let path = path_text(alloc, path)?;
