@@ -1,9 +1,10 @@
 -- The listings of a script ask for the greatest page.
-use Rattle.std.proofs.Common.{◌≡◌, ℕ, nat_le, Bool, true, false, cond, bytes_eq, Option, Some, None, List, [], ◌∷◌, length, refl, subst}
+use Rattle.std.proofs.Common.{◌≡◌, ℕ, nat_le, Bool, true, false, cond, bytes_eq, codes, rules, arith, Option, Some, None, List, [], ◌∷◌, length, refl, subst}
 use Rattle.std.specs.List.{list_all, slice_split}
 use Rattle.hs_types.specs.declared.call.Call.{Call}
+use Rattle.hs_types.specs.declared.call.Call.TheVariants as calls
 use Rattle.hsnap.specs.Pages.{has_greatest_page}
-use Rattle.hsnap.specs.Script.{is_line_feed, words, mode_of, path_call, chmod_call, pair_call, call_of_command, call_of_words, call_of, with_call, calls_of, script_parts, at_most_1000, script_of}
+use Rattle.hsnap.specs.Script.{is_line_feed, words, is_worded, mode_of, path_call, chmod_call, pair_call, call_of_command, call_of_words, call_of, with_call, calls_of, script_parts, at_most_1000, script_of}
 use Rattle.hsnap.proofs.Both.{both_yes}
 
 abbrev IsGreatest : Option Call → Type 0
@@ -23,11 +24,10 @@ chmod_greatest path None = tt
 chmod_greatest path (Some mode) = refl
 
 path_greatest : (command path : List ℕ) → IsGreatest (path_call command path)
-path_greatest command path =
-    either _ _ _ refl (either _ _ _ refl (either _ _ _ refl (either _ _ _ refl (either _ _ _ refl (either _ _ _ refl (either _ _ _ refl tt))))))
+path_greatest command path = search (rules, either)
 
 pair_greatest : (command path word : List ℕ) → IsGreatest (pair_call command path word)
-pair_greatest command path word = either _ _ _ refl (either _ _ _ (chmod_greatest path (mode_of word)) tt)
+pair_greatest command path word = search (rules, either, chmod_greatest)
 
 command_greatest : (words : List (List ℕ)) → IsGreatest (call_of_command words)
 command_greatest [] = tt
@@ -38,10 +38,10 @@ command_greatest (command ∷ path ∷ word ∷ next ∷ more) = tt
 
 words_greatest : (words : List (List ℕ)) → IsGreatest (call_of_words words)
 words_greatest [] = tt
-words_greatest (side ∷ words) = either _ _ _ (command_greatest words) tt
+words_greatest (side ∷ words) = either (bytes_eq side (codes "s")) (call_of_command words) None (command_greatest words) tt
 
 line_greatest : (line : List ℕ) → IsGreatest (call_of line)
-line_greatest line = either _ _ _ (words_greatest (words line)) tt
+line_greatest line = either (is_worded line) (call_of_words (words line)) None (words_greatest (words line)) tt
 
 with_call_greatest : (call : Option Call) (calls : Option (List Call)) → IsGreatest call → AreGreatest calls → AreGreatest (with_call call calls)
 with_call_greatest None calls here more = tt
