@@ -1,15 +1,16 @@
 pub mod Growth
 pub mod Moves
 pub mod Ranks
+pub mod Refusals
 pub mod ValidAsked
 pub mod ValidChanges
-pub mod Validity
 pub mod ValidMoves
 pub mod ValidNodes
 pub mod ValidPlaces
 pub mod ValidRepaths
 pub mod ValidShapes
 pub mod ValidTrees
+pub mod Validity
 pub mod Viewed
 pub mod ViewedChange
 pub mod Walks

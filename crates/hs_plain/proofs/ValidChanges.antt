@@ -1,5 +1,5 @@
 -- The ids and kinds of a tree's nodes after a change of the tree.
-use Rattle.std.proofs.Common.{◌≡◌, ℕ, ◌+◌, Bool, true, false, cond, List, [], ◌∷◌, ◌++◌, map, length, drop, Option, Some, None, refl, sym, ap, ◌∙◌}
+use Rattle.std.proofs.Common.{◌≡◌, ℕ, true, false, cond, [], ◌∷◌, ◌++◌, map, length, drop, Some, None, refl, sym, ap, ◌∙◌}
 use Rattle.std.specs.Prelude.{◌≢◌, not, bytes_eq}
 use Rattle.std.specs.List.{starts_with}
 use Rattle.std.specs.Option.{option_map}
@@ -11,7 +11,7 @@ use Rattle.hs_plain.specs.declared.state.Node.{Node}
 use Rattle.hs_plain.specs.Tree.{Tree, path_cmp, node_at, same_path}
 use Rattle.hs_plain.specs.Change.{restamp, stamped, remode, moded, without, repath, at_new}
 use Rattle.hs_plain.proofs.ValidTrees.{paths_total, paths_exact, restamp-kept, remode-kept}
-use Rattle.hs_plain.proofs.ValidShapes.{Shape, Shapes, same-itself, other-test, under_test, under_so, true_false}
+use Rattle.hs_plain.proofs.ValidShapes.{same-itself, other-test, under_test, under_so}
 use Rattle.hs_plain.proofs.ValidNodes.{shape, shapes}
 
 -- a path that isn't at or below another

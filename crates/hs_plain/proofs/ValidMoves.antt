@@ -1,5 +1,5 @@
 -- A subtree at a new path: it is a tree again.
-use Rattle.std.proofs.Common.{◌≡◌, ℕ, ◌+◌, ◌<◌, Bool, true, false, List, [], ◌∷◌, ◌++◌, Option, Some, None, refl, sym, ap, ◌∙◌, append_assoc, append-nil}
+use Rattle.std.proofs.Common.{◌≡◌, ℕ, true, List, [], ◌∷◌, ◌++◌, Some, None, sym, ap, ◌∙◌, append_assoc, append-nil}
 use Rattle.std.specs.Prelude.{◌≢◌}
 use Rattle.std.proofs.lemmas.List.{append_cancel_left}
 use Rattle.hs_types.specs.Names.{Names}
@@ -17,11 +17,11 @@ module _ (f : Shapes) (next : ℕ) (is : IsTree f next) (old new above : Names) 
   pub to_apart : (p q : Names) (a b : Shape) → f p ≡ Some a → f q ≡ Some b → to p ≡ to q → p ≡ q
   to_apart p q a b h k e = by_under p old
       (λ r d. by_under q old
-          (λ t c. let tails : r ≡ t = append_cancel_left new r t (sym (to_under r) ∙ ap to (sym d) ∙ e ∙ ap to c ∙ to_under t) in d ∙ ap (λ (x : Names). old ++ x) tails ∙ sym c)
-          (λ ne. absurd (none_below r b (ap f (sym (to_under r) ∙ ap to (sym d) ∙ e ∙ to_other q ne) ∙ k))))
+      (λ t c. let tails : r ≡ t = append_cancel_left new r t (sym (to_under r) ∙ ap to (sym d) ∙ e ∙ ap to c ∙ to_under t) in d ∙ ap (λ (x : Names). old ++ x) tails ∙ sym c)
+      (λ ne. absurd (none_below r b (ap f (sym (to_under r) ∙ ap to (sym d) ∙ e ∙ to_other q ne) ∙ k))))
       (λ ne. by_under q old
-          (λ t c. absurd (none_below t a (ap f (sym (to_under t) ∙ ap to (sym c) ∙ sym e ∙ to_other p ne) ∙ h)))
-          (λ nd. sym (to_other p ne) ∙ e ∙ to_other q nd))
+      (λ t c. absurd (none_below t a (ap f (sym (to_under t) ∙ ap to (sym c) ∙ sym e ∙ to_other p ne) ∙ h)))
+      (λ nd. sym (to_other p ne) ∙ e ∙ to_other q nd))
 
   module _ (g : Shapes) (from : (q : Names) (s : Shape) → g q ≡ Some s → (p : Names) × (f p ≡ Some s) × (to p ≡ q)) (onto : (p : Names) (s : Shape) → f p ≡ Some s → g (to p) ≡ Some s) where
     dir_onto : (p q : Names) → to p ≡ q → is_dir_shape (f p) ≡ true → is_dir_shape (g q) ≡ true
@@ -36,13 +36,13 @@ module _ (f : Shapes) (next : ℕ) (is : IsTree f next) (old new above : Names) 
     above_from : (q : Names) (last : List ℕ) (s : Shape) (p : Names) → f p ≡ Some s → to p ≡ q ++ last ∷ [] → is_dir_shape (g q) ≡ true
     above_from q last s p h e = by_under p old
         (λ rest d. by_last (λ r. p ≡ old ++ r → is_dir_shape (g q) ≡ true) rest
-            (λ c. let landed : new ≡ q ++ last ∷ [] = sym (to_under [] ∙ append-nil new) ∙ ap to (sym c) ∙ e in
-                dir_onto above q (to_above ∙ one_up above q name last (sym lands ∙ landed)) parent)
-            (λ front other c. let up : (new ++ front) ++ other ∷ [] ≡ q ++ last ∷ [] = append_assoc new front (other ∷ []) ∙ sym (to_under (front ++ other ∷ [])) ∙ ap to (sym c) ∙ e in
-                dir_onto (old ++ front) q (to_under front ∙ one_up (new ++ front) q other last up) (is.above (old ++ front) other s (ap f (append_assoc old front (other ∷ []) ∙ sym c) ∙ h)))
-            d)
+        (λ c. let landed : new ≡ q ++ last ∷ [] = sym (to_under [] ∙ append-nil new) ∙ ap to (sym c) ∙ e in
+        dir_onto above q (to_above ∙ one_up above q name last (sym lands ∙ landed)) parent)
+        (λ front other c. let up : (new ++ front) ++ other ∷ [] ≡ q ++ last ∷ [] = append_assoc new front (other ∷ []) ∙ sym (to_under (front ++ other ∷ [])) ∙ ap to (sym c) ∙ e in
+        dir_onto (old ++ front) q (to_under front ∙ one_up (new ++ front) q other last up) (is.above (old ++ front) other s (ap f (append_assoc old front (other ∷ []) ∙ sym c) ∙ h)))
+        d)
         (λ ne. let stays : p ≡ q ++ last ∷ [] = sym (to_other p ne) ∙ e in
-            dir_onto q q (to_other q (λ rest d. ne (rest ++ last ∷ []) (stays ∙ ap (λ (x : Names). x ++ last ∷ []) d ∙ append_assoc old rest (last ∷ [])))) (is.above q last s (ap f (sym stays) ∙ h)))
+        dir_onto q q (to_other q (λ rest d. ne (rest ++ last ∷ []) (stays ∙ ap (λ (x : Names). x ++ last ∷ []) d ∙ append_assoc old rest (last ∷ [])))) (is.above q last s (ap f (sym stays) ∙ h)))
 
     pub tree-moved : IsTree g next
     tree-moved = record {

@@ -1,5 +1,5 @@
 -- The ids and kinds of a tree's nodes: what the lists of places say of them, and back.
-use Rattle.std.proofs.Common.{◌≡◌, ℕ, ◌<◌, Bool, true, false, cond, List, [], ◌∷◌, ◌++◌, map, Option, Some, None, refl, sym, ap, ◌∙◌}
+use Rattle.std.proofs.Common.{◌≡◌, ℕ, Bool, true, false, List, [], ◌∷◌, ◌++◌, map, Option, Some, None, refl, sym, ap, ◌∙◌}
 use Rattle.std.specs.Prelude.{not, ◌&&◌, nat_lt}
 use Rattle.std.specs.List.{list_all, list_any}
 use Rattle.std.specs.Option.{option_map}
@@ -7,9 +7,9 @@ use Rattle.std.specs.FinMap.Entries.{is_sorted}
 use Rattle.std.proofs.lemmas.Bool.Decides.{Decides-eqb, Decides-ltb}
 use Rattle.hs_types.specs.Names.{Names}
 use Rattle.hs_plain.specs.declared.state.Node.{Node}
-use Rattle.hs_plain.specs.Tree.{Tree, path_cmp, node_at, is_dir, parent_of}
+use Rattle.hs_plain.specs.Tree.{Tree, path_cmp, node_at, is_dir}
 use Rattle.hs_plain.specs.State.{same_inode}
-use Rattle.hs_plain.specs.Valid.{is_dir_node, is_dir_with, has_parent, has_parents, all_differ, has_each_once, clash, has_clash}
+use Rattle.hs_plain.specs.Valid.{is_dir_node, is_dir_with, has_parent, has_parents, has_each_once, clash, has_clash}
 use Rattle.hs_plain.proofs.ValidTrees.{both, first, second}
 use Rattle.hs_plain.proofs.ValidShapes.{Shape, Shapes, IsTree, is_dir_shape, none_some, same_some, true_false, by_last, parent_of-last}
 use Rattle.hs_plain.proofs.ValidPlaces.{all_places, place_passes, any_fails, one_place, ids_differ}

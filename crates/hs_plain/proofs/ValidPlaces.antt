@@ -1,6 +1,6 @@
 -- What holds of each place of a tree in order, and what holds of each node that a path leads to.
-use Rattle.std.proofs.Common.{◌≡◌, ℕ, Bool, true, false, cond, List, [], ◌∷◌, map, Option, Some, None, refl, sym, ap, ◌∙◌}
-use Rattle.std.specs.Prelude.{not, ◌&&◌, ◌||◌, ◌==◌}
+use Rattle.std.proofs.Common.{◌≡◌, ℕ, Bool, true, false, cond, [], ◌∷◌, map, Some, None, refl, sym, ap, ◌∙◌}
+use Rattle.std.specs.Prelude.{not, ◌||◌, ◌==◌}
 use Rattle.std.specs.List.{list_all, list_any}
 use Rattle.std.specs.Ordering.{is_lt, is_eq, eq_by_cmp}
 use Rattle.std.specs.declared.cmp.Ordering.{Ordering}
@@ -12,7 +12,7 @@ use Rattle.hs_plain.specs.declared.state.Node.{Node}
 use Rattle.hs_plain.specs.Tree.{Tree, path_cmp, node_at}
 use Rattle.hs_plain.specs.Valid.{all_differ}
 use Rattle.hs_plain.proofs.ValidTrees.{both, first, second}
-use Rattle.hs_plain.proofs.ValidShapes.{same_so, same-itself, none_some, same_some}
+use Rattle.hs_plain.proofs.ValidShapes.{same_so, same-itself, none_some, same_some, true_false}
 
 -- ---- tests
 
@@ -35,9 +35,6 @@ neither_second false b h = h
 not_so : (b : Bool) → not b ≡ true → b ≡ false
 not_so true h = cc
 not_so false h = refl
-
-true_false : {b : Bool} → b ≡ true → b ≡ false → ⊥
-true_false h g = cc
 
 -- ---- places
 
@@ -93,19 +90,19 @@ module _ {B : Type 0} where
       let fresh : list_any (λ other. e.1.id.0 == other) (map id_of es) ≡ false = not_so _ (first (not (list_any (λ other. e.1.id.0 == other) (map id_of es))) _ h) in
       let apart : (r : Names) (n : Node B) → node_at es r ≡ Some n → e.1.id.0 ≡ n.id.0 → ⊥ = λ r n rt d. true_false ((Decides-eqb e.1.id.0 n.id.0).1 d) (place_fails id_of (λ other. e.1.id.0 == other) es fresh r n rt) in
       by_place e es p a at
-          (λ pe ae. by_place e es q b bt (λ qe be. pe ∙ sym qe) (λ bt. absurd (apart q b bt (ap (λ (n : Node B). n.id.0) (sym ae) ∙ same))))
-          (λ at. by_place e es q b bt
-              (λ qe be. absurd (apart p a at (ap (λ (n : Node B). n.id.0) (sym be) ∙ sym same)))
-              (λ bt. one_place es (second (not (list_any (λ other. e.1.id.0 == other) (map id_of es))) _ h) p q a b at bt same))
+      (λ pe ae. by_place e es q b bt (λ qe be. pe ∙ sym qe) (λ bt. absurd (apart q b bt (ap (λ (n : Node B). n.id.0) (sym ae) ∙ same))))
+      (λ at. by_place e es q b bt
+      (λ qe be. absurd (apart p a at (ap (λ (n : Node B). n.id.0) (sym be) ∙ sym same)))
+      (λ bt. one_place es (second (not (list_any (λ other. e.1.id.0 == other) (map id_of es))) _ h) p q a b at bt same))
 
   pub ids_differ : (tree : Tree B) → is_sorted path_cmp tree ≡ true → ((p q : Names) (a b : Node B) → node_at tree p ≡ Some a → node_at tree q ≡ Some b → a.id.0 ≡ b.id.0 → p ≡ q) → all_differ (map id_of tree) ≡ true
   ids_differ [] h once = refl
   ids_differ (e ∷ es) h once =
       let above : below_all path_cmp e.0 es ≡ true = first (below_all path_cmp e.0 es) _ h in
       both
-          (ap not (any_fails id_of (λ other. e.1.id.0 == other) es (second (below_all path_cmp e.0 es) _ h) (λ q n at.
-              elim (e.1.id.0 == n.id.0) as (λ b. (e.1.id.0 == n.id.0) ≡ b → b ≡ false) [
-                | true ↦ λ t. absurd (none_some (sym (missing_below e.0 es above) ∙ ap (node_at es) (once e.0 q e.1 n (head_at e es) (in_tail e es q n above at) ((Decides-eqb e.1.id.0 n.id.0).0 t)) ∙ at))
-                | false ↦ λ t. refl
-              ] refl)))
-          (ids_differ es (second (below_all path_cmp e.0 es) _ h) (λ p q a b at bt. once p q a b (in_tail e es p a above at) (in_tail e es q b above bt)))
+      (ap not (any_fails id_of (λ other. e.1.id.0 == other) es (second (below_all path_cmp e.0 es) _ h) (λ q n at.
+      elim (e.1.id.0 == n.id.0) as (λ b. (e.1.id.0 == n.id.0) ≡ b → b ≡ false) [
+        | true ↦ λ t. absurd (none_some (sym (missing_below e.0 es above) ∙ ap (node_at es) (once e.0 q e.1 n (head_at e es) (in_tail e es q n above at) ((Decides-eqb e.1.id.0 n.id.0).0 t)) ∙ at))
+        | false ↦ λ t. refl
+      ] refl)))
+      (ids_differ es (second (below_all path_cmp e.0 es) _ h) (λ p q a b at bt. once p q a b (in_tail e es p a above at) (in_tail e es q b above bt)))

@@ -1,5 +1,5 @@
 -- The nodes of a tree whose places have been put in again under other paths.
-use Rattle.std.proofs.Common.{◌≡◌, Bool, true, false, List, [], ◌∷◌, map, Option, Some, None, refl, sym, ap, ◌∙◌}
+use Rattle.std.proofs.Common.{◌≡◌, true, [], ◌∷◌, map, Some, refl, sym, ap, ◌∙◌}
 use Rattle.std.specs.Prelude.{◌≢◌}
 use Rattle.std.specs.Option.{option_map}
 use Rattle.std.specs.FinMap.Entries.{put, is_sorted, below_all}
@@ -8,7 +8,7 @@ use Rattle.hs_plain.specs.declared.state.Node.{Node}
 use Rattle.hs_plain.specs.Tree.{Tree, path_cmp, node_at}
 use Rattle.hs_plain.specs.Change.{repath, put_all, moved}
 use Rattle.hs_plain.proofs.ValidTrees.{first, second}
-use Rattle.hs_plain.proofs.ValidShapes.{Shape, by_same, none_some, same_some}
+use Rattle.hs_plain.proofs.ValidShapes.{Shape, by_same, none_some}
 use Rattle.hs_plain.proofs.ValidPlaces.{missing_below, head_at, in_tail, by_place}
 use Rattle.hs_plain.proofs.ValidNodes.{shape, shapes, shape_some}
 use Rattle.hs_plain.proofs.ValidChanges.{put_here, put_there, moved_path, repath-is}
@@ -34,8 +34,8 @@ module _ {B : Type 0} (to : Names → Names) (act : Names × Node B → Names ×
   put_all_from (e ∷ es) acc q n h at before came =
       put_all_from es (put path_cmp (act e).0 (act e).1 acc) q n (second (below_all path_cmp e.0 es) _ h) at
       (λ bt. by_same q (act e).0
-          (λ d. came e.0 (head_at e es ∙ ap (λ (x : Node B). Some x) (sym (node_acts e)) ∙ sym (put_here (act e).0 (act e).1 acc) ∙ ap (node_at (put path_cmp (act e).0 (act e).1 acc)) (sym d) ∙ bt) (sym (d ∙ path_acts e)))
-          (λ ne. before (sym (put_there (act e).0 (act e).1 acc q ne) ∙ bt)))
+      (λ d. came e.0 (head_at e es ∙ ap (λ (x : Node B). Some x) (sym (node_acts e)) ∙ sym (put_here (act e).0 (act e).1 acc) ∙ ap (node_at (put path_cmp (act e).0 (act e).1 acc)) (sym d) ∙ bt) (sym (d ∙ path_acts e)))
+      (λ ne. before (sym (put_there (act e).0 (act e).1 acc q ne) ∙ bt)))
       (λ p bt d. came p (in_tail e es p n (first (below_all path_cmp e.0 es) _ h) bt) d)
 
   -- and each has come to its path, where no two come to one
@@ -46,8 +46,8 @@ module _ {B : Type 0} (to : Names → Names) (act : Names × Node B → Names ×
       let above : below_all path_cmp e.0 es ≡ true = first (below_all path_cmp e.0 es) _ h in
       by_place e es p n at
       (λ pe ne. put_all_there es (put path_cmp (act e).0 (act e).1 acc) (to p) (second (below_all path_cmp e.0 es) _ h)
-          (λ q m qt d. none_some (sym (missing_below e.0 es above) ∙ ap (node_at es) (sym (apart q p m n (in_tail e es q m above qt) at d ∙ pe)) ∙ qt))
-          ∙ ap (node_at (put path_cmp (act e).0 (act e).1 acc)) (ap to pe ∙ sym (path_acts e)) ∙ put_here (act e).0 (act e).1 acc ∙ ap (λ (x : Node B). Some x) (node_acts e ∙ sym ne))
+      (λ q m qt d. none_some (sym (missing_below e.0 es above) ∙ ap (node_at es) (sym (apart q p m n (in_tail e es q m above qt) at d ∙ pe)) ∙ qt))
+      ∙ ap (node_at (put path_cmp (act e).0 (act e).1 acc)) (ap to pe ∙ sym (path_acts e)) ∙ put_here (act e).0 (act e).1 acc ∙ ap (λ (x : Node B). Some x) (node_acts e ∙ sym ne))
       (λ bt. put_all_onto es (put path_cmp (act e).0 (act e).1 acc) (second (below_all path_cmp e.0 es) _ h) (λ x y a b xt yt. apart x y a b (in_tail e es x a above xt) (in_tail e es y b above yt)) p n bt)
 
 module _ {B : Type 0} (tree : Tree B) (old new : Names) (sorted : is_sorted path_cmp tree ≡ true) where

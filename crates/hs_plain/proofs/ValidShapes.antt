@@ -1,5 +1,5 @@
 -- A tree as a function from its paths to ids and kinds: what makes it one, and what keeps it one.
-use Rattle.std.proofs.Common.{◌≡◌, ℕ, ◌+◌, ◌-◌, ◌<◌, Bool, true, false, List, [], ◌∷◌, ◌++◌, length, take, drop, Option, Some, None, refl, sym, ap, subst, ◌∙◌, append_assoc, append-nil, length-append, arith}
+use Rattle.std.proofs.Common.{◌≡◌, ℕ, ◌+◌, ◌-◌, ◌<◌, Bool, true, false, List, [], ◌∷◌, ◌++◌, length, take, drop, Option, Some, None, refl, sym, ap, ◌∙◌, append_assoc, append-nil, length-append, arith}
 use Rattle.std.specs.Prelude.{◌≢◌, bytes_eq}
 use Rattle.std.specs.List.{starts_with}
 use Rattle.std.specs.Ordering.{is_eq, eq_by_cmp}
@@ -37,9 +37,6 @@ by_same {P} p q here there = elim (eq_by_cmp path_cmp p q) as (λ b. eq_by_cmp p
 
 pub other-test : (p q : Names) → p ≢ q → eq_by_cmp path_cmp p q ≡ false
 other-test p q ne = elim (eq_by_cmp path_cmp p q) as (λ b. eq_by_cmp path_cmp p q ≡ b → b ≡ false) [ true ↦ λ h. absurd (ne (same_so h)) | false ↦ λ h. refl ] refl
-
-abbrev pub IsUnder : Names → Names → Type 0
-IsUnder q old = (rest : Names) × (q ≡ old ++ rest)
 
 pub under_so : (q old : Names) → starts_with bytes_eq q old ≡ true → q ≡ old ++ drop (length old) q
 under_so q old h = (starts_is bytes_eq-Decides q old (starts_with bytes_eq q old) refl).0 h

@@ -1,5 +1,5 @@
 -- Each entry leads from a valid state without snapshots to another one.
-use Rattle.std.proofs.Common.{◌≡◌, ℕ, ◌+◌, ◌<◌, Bool, true, false, cond, List, [], ◌∷◌, ◌++◌, map, Option, Some, None, Ok, refl, sym, ap, subst, ◌∙◌, append-nil, rules}
+use Rattle.std.proofs.Common.{◌≡◌, ℕ, ◌+◌, ◌<◌, true, false, List, [], ◌∷◌, ◌++◌, map, Some, None, refl, sym, ap, subst, ◌∙◌, append-nil, rules}
 use Rattle.std.specs.Prelude.{◌≢◌, nat_lt}
 use Rattle.std.specs.List.{list_all, flat_map}
 use Rattle.std.specs.Option.{option_map}
@@ -14,14 +14,14 @@ use Rattle.hs_plain.specs.declared.state.Node.{Node}
 use Rattle.hs_plain.specs.declared.state.Member.{Member}
 use Rattle.hs_plain.specs.declared.state.State.{State}
 use Rattle.hs_plain.specs.Files.{Files}
-use Rattle.hs_plain.specs.Tree.{Tree, path_cmp, node_at, parent_of, walks_above, is_dir}
+use Rattle.hs_plain.specs.Tree.{Tree, path_cmp, node_at, parent_of, is_dir}
 use Rattle.hs_plain.specs.State.{start, new_dir}
 use Rattle.hs_plain.specs.Answer.{mkdir_at, create_at, delete_at, rename_at, set_mode_at}
 use Rattle.hs_plain.specs.Change.{stamped, without, moved, still_in, new_file, with_node, made_dir, made_file, removed, renamed, with_mode, change, takes_effect, changed_if, after}
 use Rattle.hs_plain.specs.Replay.{replay_from, replay}
-use Rattle.hs_plain.specs.Valid.{is_dir_node, has_clash, IsValid, IsLive}
+use Rattle.hs_plain.specs.Valid.{has_clash, IsValid, IsLive}
 use Rattle.hs_plain.proofs.ValidTrees.{if_asked-keeps, sorted-with_node, sorted-removed, sorted-renamed, sorted-moded}
-use Rattle.hs_plain.proofs.ValidShapes.{Shape, IsTree, is_dir_shape, true_false, none_some, by_last, tree-made, tree-removed}
+use Rattle.hs_plain.proofs.ValidShapes.{IsTree, is_dir_shape, true_false, none_some, by_last, tree-made, tree-removed}
 use Rattle.hs_plain.proofs.ValidMoves.{to_apart, tree-moved}
 use Rattle.hs_plain.proofs.ValidNodes.{shape, shapes, dir_shape, tree_so, root-from, parents-from, once-from, below-from, one_kind-from}
 use Rattle.hs_plain.proofs.ValidChanges.{shapes-stamped, shapes-moded, put_here, put_there, without_gone, without_there, moved_path, moved_under, moved_other}
@@ -36,13 +36,13 @@ module _ {B : Type 0} where
   tree-with_node state path node is room id = by_last (λ path. HasRoom state.tree path → IsTree (shapes (with_node state path node).tree) (state.next_inode + 1)) path
       (λ room. absurd (true_false (sym (dir_shape (node_at state.tree [])) ∙ ap is_dir_shape is.root) room.free))
       (λ above name room.
-          let p : Names = above ++ name ∷ [] in
-          let was : Tree B = stamped state.tree (parent_of p) (state.tick + 1) in
-          tree-made (shapes state.tree) state.next_inode is (shapes (put path_cmp p node was)) above name (is_dir node)
-          (dir_shape (node_at state.tree above) ∙ walked state.tree [] above name room.reached.0 room.reached.1)
-          (dir_shape (node_at state.tree p) ∙ room.free)
-          (ap (option_map shape) (put_here p node was) ∙ ap (λ n. Some (n, is_dir node)) id)
-          (λ q ne. ap (option_map shape) (put_there p node was q ne) ∙ (λ i. shapes-stamped state.tree (parent_of p) (state.tick + 1) i q)))
+      let p : Names = above ++ name ∷ [] in
+      let was : Tree B = stamped state.tree (parent_of p) (state.tick + 1) in
+      tree-made (shapes state.tree) state.next_inode is (shapes (put path_cmp p node was)) above name (is_dir node)
+      (dir_shape (node_at state.tree above) ∙ walked state.tree [] above name room.reached.0 room.reached.1)
+      (dir_shape (node_at state.tree p) ∙ room.free)
+      (ap (option_map shape) (put_here p node was) ∙ ap (λ n. Some (n, is_dir node)) id)
+      (λ q ne. ap (option_map shape) (put_there p node was q ne) ∙ (λ i. shapes-stamped state.tree (parent_of p) (state.tick + 1) i q)))
       room
 
   pub tree-without : (tree : Tree B) (next : ℕ) (path : Names) → IsTree (shapes tree) next → path ≢ [] → IsTree (shapes (without tree path)) next
@@ -52,12 +52,12 @@ module _ {B : Type 0} where
   tree-moved_to tree next old new sorted is may = by_last (λ new. MayMove tree old new → IsTree (shapes (moved tree old new)) next) new
       (λ may. absurd (none_some (ap (option_map shape) (sym may.free) ∙ is.root)))
       (λ above name may.
-          let p : Names = above ++ name ∷ [] in
-          let parent : is_dir_shape (shapes tree above) ≡ true = dir_shape (node_at tree above) ∙ walked tree [] above name may.reached.0 may.reached.1 in
-          let free : shapes tree p ≡ None = ap (option_map shape) may.free in
-          tree-moved (shapes tree) next is old p above name refl parent free may.below_root (lands_outside tree old p may) (moved_path old p) (moved_under old p) (moved_other old p)
-          (shapes (moved tree old p)) (moved_from tree old p sorted)
-          (moved_onto tree old p sorted (to_apart (shapes tree) next is old p above name refl parent free may.below_root (lands_outside tree old p may) (moved_path old p) (moved_under old p) (moved_other old p))))
+      let p : Names = above ++ name ∷ [] in
+      let parent : is_dir_shape (shapes tree above) ≡ true = dir_shape (node_at tree above) ∙ walked tree [] above name may.reached.0 may.reached.1 in
+      let free : shapes tree p ≡ None = ap (option_map shape) may.free in
+      tree-moved (shapes tree) next is old p above name refl parent free may.below_root (lands_outside tree old p may) (moved_path old p) (moved_under old p) (moved_other old p)
+      (shapes (moved tree old p)) (moved_from tree old p sorted)
+      (moved_onto tree old p sorted (to_apart (shapes tree) next is old p above name refl parent free may.below_root (lands_outside tree old p may) (moved_path old p) (moved_under old p) (moved_other old p))))
       may
 
   pub tree-stamped : (tree : Tree B) (next : ℕ) (path : Names) (tick : ℕ) → IsTree (shapes tree) next → IsTree (shapes (stamped tree path tick)) next
@@ -77,10 +77,10 @@ module _ {B : Type 0} where
   kept_so state live =
       let v = live.valid in
       let below : list_all (λ place. nat_lt place.1.id.0 state.next_inode) state.tree ≡ true =
-          sym (list_all-map (λ (node : Node B). nat_lt node.id.0 state.next_inode) (λ place. place.1) state.tree)
-          ∙ ap (λ (t : Tree B). list_all (λ node. nat_lt node.id.0 state.next_inode) (map (λ place. place.1) t)) (sym (append-nil state.tree))
-          ∙ ap (λ (ms : List (Member B)). list_all (λ node. nat_lt node.id.0 state.next_inode) (map (λ place. place.1) (state.tree ++ flat_map (λ member. member.tree) ms))) (sym live.no_snapshots)
-          ∙ v.ids_below in
+      sym (list_all-map (λ (node : Node B). nat_lt node.id.0 state.next_inode) (λ place. place.1) state.tree)
+      ∙ ap (λ (t : Tree B). list_all (λ node. nat_lt node.id.0 state.next_inode) (map (λ place. place.1) t)) (sym (append-nil state.tree))
+      ∙ ap (λ (ms : List (Member B)). list_all (λ node. nat_lt node.id.0 state.next_inode) (map (λ place. place.1) (state.tree ++ flat_map (λ member. member.tree) ms))) (sym live.no_snapshots)
+      ∙ v.ids_below in
       record {
         sorted = v.sorted;
         tree = tree_so state.tree state.next_inode v.root v.parents v.each_once below;

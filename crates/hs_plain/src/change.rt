@@ -319,6 +319,8 @@ fn delete<B: FileBody>(
     ensures reply { IfOk result (λ reply. asked B.files state.old (calls.Delete path.now recursive) ≡ Ok reply) }
     ensures fault { IfErr result (IsFaultOf (asked B.files state.old (calls.Delete path.now recursive))) }
     ensures ok { OnOk result (state.new ≡ change B.files state.old (calls.Delete path.now recursive)) }
+    ensures tick { state.new.tick ≡ state.old.tick }
+    ensures inodes { state.new.next_inode ≡ state.old.next_inode }
     ensures err { OnErr result (state.new ≡ state.old) }
 {
     let path = delete_at(alloc, state, path, recursive)?;
@@ -336,6 +338,8 @@ fn rename<B: FileBody>(
     ensures reply { IfOk result (λ reply. asked B.files state.old (calls.Rename old.now new.now) ≡ Ok reply) }
     ensures fault { IfErr result (IsFaultOf (asked B.files state.old (calls.Rename old.now new.now))) }
     ensures ok { OnOk result (state.new ≡ change B.files state.old (calls.Rename old.now new.now)) }
+    ensures tick { state.new.tick ≡ state.old.tick }
+    ensures inodes { state.new.next_inode ≡ state.old.next_inode }
     ensures err { OnErr result (state.new ≡ state.old) }
 {
     let paths = rename_at(alloc, state, old, new)?;
@@ -353,6 +357,8 @@ fn change_mode<B: FileBody>(
     ensures reply { IfOk result (λ reply. asked B.files state.old (calls.SetMode path.now mode) ≡ Ok reply) }
     ensures fault { IfErr result (IsFaultOf (asked B.files state.old (calls.SetMode path.now mode))) }
     ensures ok { OnOk result (state.new ≡ change B.files state.old (calls.SetMode path.now mode)) }
+    ensures tick { state.new.tick ≡ state.old.tick }
+    ensures inodes { state.new.next_inode ≡ state.old.next_inode }
     ensures err { OnErr result (state.new ≡ state.old) }
 {
     let path = set_mode_at(alloc, state, path)?;

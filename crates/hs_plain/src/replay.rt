@@ -3,6 +3,7 @@ ghost use Rattle.std.specs.Prelude.{◌≡◌, ◌+◌, ◌<◌, ◌≤◌, ◌^
 ghost use Rattle.hs_plain.specs.State.{start as plain_start};
 ghost use Rattle.hs_plain.specs.Answer.{is_exclusive as is_plain_exclusive};
 ghost use Rattle.hs_plain.specs.Change.{changed_if, after as plain_after_entry};
+ghost use Rattle.hs_plain.specs.Faults.{is_answered as is_plain_answered};
 ghost use Rattle.hs_plain.specs.Replay.{plain_after};
 
 use crate::answer::is_exclusive;
@@ -10,7 +11,7 @@ use crate::change::make_change;
 use crate::files::FileBody;
 use crate::resolve::AskFault;
 use crate::state::{Body, Node, PlainState, State};
-use hs_types::{Call, Entry, EntryKind, InodeId, List, Mode, NoMemory};
+use hs_types::{Call, Entry, EntryKind, InodeId, List, Mode, NoMemory, Reply};
 use std::alloc::Global;
 
 /// The root alone.
@@ -35,6 +36,17 @@ pub fn start<B: Drop>(alloc: Global) -> Result<State<B>, NoMemory>
     })
 }
 
+/// Whether a call was answered: a refusal is an answer too.
+fn is_answered(made: Result<Reply, AskFault>) -> bool
+    ensures { result ≡ is_plain_answered made }
+{
+    match made {
+        Ok(_) | Err(AskFault::Refused(_)) => true,
+        Err(AskFault::NoMemory) => false,
+    }
+}
+
+#[tactic(auto, using(crate::proofs::Refusals::answered_change))]
 /// Makes a call's change, where it isn't refused. Without memory the state is of no use.
 fn make_accepted<B: FileBody>(
     alloc: Global,
@@ -50,9 +62,10 @@ fn make_accepted<B: FileBody>(
     if !is_exclusive(call) {
         return Ok(());
     }
-    match make_change(alloc, state, call) {
-        Err(AskFault::NoMemory) => Err(NoMemory),
-        Ok(_) | Err(AskFault::Refused(_)) => Ok(()),
+    if is_answered(make_change(alloc, state, call)) {
+        Ok(())
+    } else {
+        Err(NoMemory)
     }
 }
 

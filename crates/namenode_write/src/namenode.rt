@@ -177,14 +177,7 @@ impl Namenode {
         ensures appended { self.new.entries ≡ self.old.entries ++ option_to_list (entry_left caller (record { seq = seq; call = call; told = result })) }
     {
         let mut journal = self.journal.take();
-        let answered = do_in(
-            self.alloc,
-            &mut self.state,
-            &mut journal,
-            caller,
-            seq,
-            call,
-        );
+        let answered = do_in(self.alloc, &mut self.state, &mut journal, caller, seq, call);
         self.journal = List::of(journal);
         answered
     }
