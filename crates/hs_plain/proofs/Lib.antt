@@ -2,6 +2,7 @@ pub mod Growth
 pub mod Moves
 pub mod Ranks
 pub mod Refusals
+pub mod Stands
 pub mod ValidAsked
 pub mod ValidChanges
 pub mod ValidMoves

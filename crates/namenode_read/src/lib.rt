@@ -77,3 +77,6 @@ pub fn ask(alloc: Global, state: &WholeState, _tick: u64, call: &Call) -> Reply
 {
     reply_in(alloc, state, call)
 }
+
+#[cfg(test)]
+mod tests;

@@ -8,7 +8,7 @@ use Rattle.hs_plain.specs.declared.state.Member.{Member}
 use Rattle.hs_plain.specs.Asked.{Asked}
 use Rattle.hs_plain.specs.Tree.{path_cmp}
 use Rattle.hs_plain.specs.State.{same_inode, member_named}
-use Rattle.path_resolver.proofs.Halves.{first, second}
+use Rattle.hs_plain.proofs.ValidTrees.{first, second}
 
 pub member_named-sorted : {B : Type 0} (members : List (Member B)) (directory : InodeId) (name : List ℕ) (member : Member B) →
     list_all (λ m. is_sorted path_cmp m.tree) members ≡ true → member_named members directory name ≡ Ok member → is_sorted path_cmp member.tree ≡ true

@@ -4,7 +4,6 @@ use Rattle.std.specs.declared.cmp.Ordering.{Ordering}
 use Rattle.std.specs.declared.cmp.Ordering.TheVariants.{Less, Equal, Greater}
 use Rattle.std.specs.Ordering.{is_lt, is_eq, ordering_index, ordering_reverse, nat_cmp}
 use Rattle.std.specs.Cmp.{IsTotalOrder, tied_back}
-use Rattle.std.specs.Cmp.Lexicographic.{lists_total, nat_list_cmp_total}
 use Rattle.std.specs.FinMap.Entries.{is_sorted, below_all, find}
 use Rattle.std.specs.List.Sorted.{IsNonDecreasingBy, IsBinarySearchResult, IsSearchInRange}
 use Rattle.std.proofs.lemmas.List.Sorted.{searchable_from_sorted}
@@ -13,22 +12,12 @@ use Rattle.hs_types.specs.Names.{Names}
 use Rattle.hs_plain.specs.declared.state.Node.{Node}
 use Rattle.hs_plain.specs.declared.state.Member.{Member}
 use Rattle.hs_plain.specs.Tree.{Tree, path_cmp, node_at}
-
-pub path_cmp_total : IsTotalOrder path_cmp
-path_cmp_total = lists_total nat_list_cmp_total
+use Rattle.hs_plain.proofs.ValidTrees.{paths_total, first, second}
 
 is_less : (r : Ordering) → is_lt r ≡ true → r ≡ Less
 is_less Less h = refl
 is_less Equal h = cc
 is_less Greater h = cc
-
-pub first : (a b : Bool) → (a && b) ≡ true → a ≡ true
-first true b h = refl
-first false b h = h
-
-pub second : (a b : Bool) → (a && b) ≡ true → b ≡ true
-second true b h = h
-second false b h = cc
 
 not_tied : {K : Type 0} {R : K → K → Ordering} → IsTotalOrder R → (e x : K) → R e x ≢ Equal → is_eq (R x e) ≡ false
 not_tied {R} o e x apart = go (R x e) refl
@@ -77,13 +66,13 @@ module _ {K X : Type 0} {R : K → K → Ordering} (o : IsTotalOrder R) where
 module _ {B : Type 0} (tree : Tree B) (path : Names) (sorted : is_sorted path_cmp tree ≡ true) where
   -- the place that a search by halves finds has the node
   pub node_at-found : (at : ℕ) (d : Names × Node B) → IsSearchInRange (Ok at) (length tree) → IsBinarySearchResult (λ place. path_cmp place.0 path) tree (Ok at) → node_at tree path ≡ Some (get_or tree at d).1
-  node_at-found at d within here = find-at path_cmp_total tree path at d sorted within (here d)
+  node_at-found at d within here = find-at paths_total tree path at d sorted within (here d)
 
   -- where it finds none there is none
   pub node_at-absent : (at : ℕ) → IsBinarySearchResult (λ place. path_cmp place.0 path) tree (Err at) → node_at tree path ≡ None
   node_at-absent at parted =
-      let point = parted (comparisons_rise path_cmp_total tree path sorted) in
-      find-none path_cmp_total tree path (λ k d lt. apart k d (point.0 k d) (point.1 k d) lt)
+      let point = parted (comparisons_rise paths_total tree path sorted) in
+      find-none paths_total tree path (λ k d lt. apart k d (point.0 k d) (point.1 k d) lt)
     where
       apart : (k : ℕ) (d : Names × Node B) → (0 ≤ k → k < at → path_cmp (get_or tree k d).0 path ≡ Less) → (at ≤ k → k < length tree → path_cmp (get_or tree k d).0 path ≡ Greater) → k < length tree → path_cmp (get_or tree k d).0 path ≢ Equal
       apart k d less greater lt same = elim (cases_lt k at) [
