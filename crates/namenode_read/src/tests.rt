@@ -1,4 +1,5 @@
-ghost use Rattle.std.specs.Prelude.{IfOk};
+ghost use Rattle.std.specs.Prelude.{◌≡◌, true, IfOk};
+ghost use Rattle.hs_plain.specs.Answer.{is_shared};
 ghost use Rattle.hs_plain.specs.Valid.{IsSorted};
 
 use crate::ask;
@@ -21,12 +22,16 @@ fn name(alloc: Global, text: &str) -> Result<Name, Fail> {
     Ok(Name::read(alloc, &NameText::new(String::from_str(alloc, text)?))?)
 }
 
-fn stat(alloc: Global, path: &str) -> Result<Call, Fail> {
+fn stat(alloc: Global, path: &str) -> Result<Call, Fail>
+    ensures { IfOk result (λ call. is_shared call ≡ true) }
+{
     let path = path_text(alloc, path)?;
     Ok(Call::Stat { path })
 }
 
-fn list(alloc: Global, path: &str, size: u16) -> Result<Call, Fail> {
+fn list(alloc: Global, path: &str, size: u16) -> Result<Call, Fail>
+    ensures { IfOk result (λ call. is_shared call ≡ true) }
+{
     let path = path_text(alloc, path)?;
     let size = PageSize::new(size).ok_or("the size of a page")?;
     Ok(Call::List { path, size })
@@ -106,10 +111,10 @@ fn the_first_fault_of_a_path_is_told(rt: HostRuntime) -> Result<(), Fail> {
         ("", Refusal::BadPath),
     ];
     for (path, why) in rows {
-        for call in [stat(alloc, path)?, list(alloc, path, 1000)?] {
-            let reply = ask(alloc, &state, state.tick, &call);
-            assert_eq!(rt; reply, Reply::Refused(why), "{path}");
-        }
+        let reply = ask(alloc, &state, state.tick, &stat(alloc, path)?);
+        assert_eq!(rt; reply, Reply::Refused(why), "{path}");
+        let reply = ask(alloc, &state, state.tick, &list(alloc, path, 1000)?);
+        assert_eq!(rt; reply, Reply::Refused(why), "{path}");
     }
     let reply = ask(alloc, &state, state.tick, &list(alloc, "/a/f", 1)?);
     assert_eq!(rt; reply, Reply::Refused(Refusal::NotDir));

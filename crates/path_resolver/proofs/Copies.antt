@@ -1,11 +1,10 @@
 -- The copied tree of a snapshot that is found by name is sorted.
-use Rattle.std.proofs.Common.{◌≡◌, ℕ, Bool, true, false, cond, ◌&&◌, List, [], ◌∷◌, Ok, refl, sym, ap, ◌∙◌}
+use Rattle.std.proofs.Common.{◌≡◌, ℕ, true, false, cond, ◌&&◌, List, [], ◌∷◌, Ok, sym, ap, ◌∙◌}
 use Rattle.std.specs.Prelude.{bytes_eq}
 use Rattle.std.specs.List.{list_all}
 use Rattle.std.specs.FinMap.Entries.{is_sorted}
 use Rattle.hs_types.specs.declared.ids.InodeId.{InodeId}
 use Rattle.hs_plain.specs.declared.state.Member.{Member}
-use Rattle.hs_plain.specs.Asked.{Asked}
 use Rattle.hs_plain.specs.Tree.{path_cmp}
 use Rattle.hs_plain.specs.State.{same_inode, member_named}
 use Rattle.hs_plain.proofs.ValidTrees.{first, second}
