@@ -1,5 +1,5 @@
 -- Where a path belongs in a tree whose paths rise, found by halves.
-use Rattle.std.proofs.Common.{◌≡◌, ℕ, zero, suc, ◌<◌, ◌≤◌, Bool, true, false, List, [], ◌∷◌, length, get_or, refl, ap, sym, ◌∙◌, arith}
+use Rattle.std.proofs.Common.{◌≡◌, ℕ, zero, suc, ◌+◌, ◌<◌, ◌≤◌, Bool, true, false, List, [], ◌∷◌, length, get_or, refl, ap, sym, ◌∙◌, arith}
 use Rattle.std.specs.List.{prefix_len}
 use Rattle.std.specs.List.Sorted.{IsPartitionedBy, IsPartitionPoint}
 use Rattle.std.specs.Ordering.{is_gt, is_lt, ordering_reverse}
@@ -9,6 +9,7 @@ use Rattle.std.specs.Cmp.{IsTotalOrder}
 use Rattle.std.specs.FinMap.Entries.{is_sorted, below_all}
 use Rattle.std.proofs.lemmas.List.Sums.{prefix_len_is}
 use Rattle.hs_types.specs.Names.{Names}
+use Rattle.hs_plain.specs.declared.state.Node.{Node}
 use Rattle.hs_plain.specs.Tree.{Tree, path_cmp, is_after}
 use Rattle.hs_plain.proofs.ValidTrees.{paths_total, first, second}
 
@@ -51,3 +52,11 @@ module _ {K X : Type 0} (R : K → K → Ordering) where
 -- a path's rank splits a tree whose paths rise
 pub IsPartitionedBy-path : {B : Type 0} (path : Names) (tree : Tree B) → is_sorted path_cmp tree ≡ true → IsPartitionedBy (is_after path) tree
 IsPartitionedBy-path path tree sorted = IsPartitionedBy-from_sorted path_cmp paths_total path tree sorted
+
+-- where the last passes such a test, all do
+pub prefix_len-from_last : {X : Type 0} (p : X → Bool) (xs : List X) (last : ℕ) (d : X) → IsPartitionedBy p xs → length xs ≡ last + 1 → p (get_or xs last d) ≡ true → length xs ≡ prefix_len p xs
+prefix_len-from_last p xs last d halves is_last passes =
+    sym (prefix_len_is p xs (length xs) d (omega arith) (λ k lt. halves k last d (omega (arith, is_last)) (omega (arith, is_last)) passes) (λ lt. absurd (omega arith)))
+
+pub comes_last-so : {B : Type 0} (path : Names) (tree : Tree B) (last : ℕ) (d : Names × Node B) → is_sorted path_cmp tree ≡ true → length tree ≡ last + 1 → is_after path (get_or tree last d) ≡ true → length tree ≡ prefix_len (is_after path) tree
+comes_last-so path tree last d sorted is_last passes = prefix_len-from_last (is_after path) tree last d (IsPartitionedBy-path path tree sorted) is_last passes

@@ -1,3 +1,4 @@
+pub mod Below
 pub mod Growth
 pub mod Halves
 pub mod Moves

@@ -62,13 +62,37 @@ fn remode_all<B>(places: &mut Vec<(RelPath, Node<B>)>, path: &[Name], mode: Mode
     }
 }
 
-/// How many places at the front stand before a path.
-fn rank_of<B>(places: &[(RelPath, Node<B>)], path: &[Name]) -> usize
+/// How many places at the front stand before a path, by halves.
+fn rank_by_halves<B>(places: &[(RelPath, Node<B>)], path: &[Name]) -> usize
     requires { is_sorted path_cmp places.now ≡ true }
     ensures rank { result ≡ prefix_len (is_after path.now) places.now }
     ensures within { result ≤ length places.now }
 {
     places.partition_point(|place| compare_paths(path, place.0.items()) == Ordering::Greater)
+}
+
+/// Whether a path comes behind all places.
+fn comes_last<B>(places: &[(RelPath, Node<B>)], path: &[Name]) -> bool
+    requires { is_sorted path_cmp places.now ≡ true }
+    ensures { result ≡ true → length places.now ≡ prefix_len (is_after path.now) places.now }
+{
+    match places.len().checked_sub(1) {
+        Some(last) => compare_paths(path, places[last].0.items()) == Ordering::Greater,
+        None => true,
+    }
+}
+
+/// How many places at the front stand before a path: all of them, where places come in order.
+fn rank_of<B>(places: &[(RelPath, Node<B>)], path: &[Name]) -> usize
+    requires { is_sorted path_cmp places.now ≡ true }
+    ensures rank { result ≡ prefix_len (is_after path.now) places.now }
+    ensures within { result ≤ length places.now }
+{
+    if comes_last(places, path) {
+        places.len()
+    } else {
+        rank_by_halves(places, path)
+    }
 }
 
 /// Whether the place with this number is at a path.

@@ -96,13 +96,14 @@ pub fn place_of<B>(tree: &[(RelPath, Node<B>)], id: InodeId) -> Option<&(RelPath
 pub fn name_below<'p>(dir: &[Name], path: &'p [Name]) -> Option<&'p Name>
     ensures { option_copied result ≡ plain_name_below dir.now path.now }
 {
+    // Most paths are told apart by their lengths alone.
+    if path.len() != dir.len() + 1 {
+        return None;
+    }
     if !path.starts_with(dir) {
         return None;
     }
-    match &path[dir.len()..] {
-        [name] => Some(name),
-        _ => None,
-    }
+    path.last()
 }
 
 /// How many children a directory has.

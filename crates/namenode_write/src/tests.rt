@@ -1,3 +1,5 @@
+mod depth;
+
 use crate::Namenode;
 use hs_plain::answer::is_exclusive;
 use hs_types::{

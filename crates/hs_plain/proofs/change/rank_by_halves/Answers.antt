@@ -2,7 +2,7 @@ use Rattle.std.proofs.Common.{rules}
 use Rattle.std.proofs.lemmas.List.Sorted.{IsPartitionPoint-from_clause}
 use Rattle.hs_plain.specs.Tree.{is_after}
 use Rattle.hs_plain.proofs.Halves.{prefix_len-from_point, IsPartitionedBy-path}
-use Rattle.hs_plain.proofs.change.rank_of.Goals as goal
+use Rattle.hs_plain.proofs.change.rank_by_halves.Goals as goal
 
 pub returns-clause-rank : goal.returns-clause-rank
 returns-clause-rank g c =
