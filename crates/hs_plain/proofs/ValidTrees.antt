@@ -1,10 +1,9 @@
 -- The live tree's paths rise in each state that entries lead to.
 use lib.Dec.{T}
-use Rattle.std.proofs.Common.{◌≡◌, ℕ, ◌+◌, Bool, true, false, cond, List, [], ◌∷◌, map, Option, Some, None, Ok, Err, refl, sym, ap, subst, ◌∙◌}
+use Rattle.std.proofs.Common.{◌≡◌, ℕ, ◌+◌, Bool, true, false, cond, List, [], ◌∷◌, map, Ok, Err, refl, sym, ap, subst, ◌∙◌}
 use Rattle.std.specs.Prelude.{not, ◌&&◌, bytes_eq}
 use Rattle.std.specs.List.{starts_with}
 use Rattle.std.specs.Ordering.{is_lt}
-use Rattle.std.specs.declared.cmp.Ordering.{Ordering}
 use Rattle.std.specs.Cmp.{IsTotalOrder}
 use Rattle.std.specs.Cmp.Lexicographic.{nat_list_cmp_total}
 use Rattle.std.proofs.lemmas.Cmp.{lists_total}
@@ -21,7 +20,7 @@ use Rattle.hs_plain.specs.Files.{Files}
 use Rattle.hs_plain.specs.Tree.{Tree, path_cmp, same_path, parent_of}
 use Rattle.hs_plain.specs.State.{start, new_dir}
 use Rattle.hs_plain.specs.Answer.{mkdir_at, create_at, delete_at, rename_at, set_mode_at}
-use Rattle.hs_plain.specs.Change.{restamp, stamped, remode, moded, without, repath, put_all, moved, new_file, with_node, made_dir, made_file, removed, renamed, with_mode, if_asked, change, takes_effect, changed_if, changed, after}
+use Rattle.hs_plain.specs.Change.{restamp, stamped, remode, moded, without, repath, put_all, moved, new_file, with_node, made_dir, made_file, removed, renamed, with_mode, if_asked, change, takes_effect, changed_if, after}
 use Rattle.hs_plain.specs.Replay.{replay_from, replay}
 
 -- ---- the order of paths

@@ -1,5 +1,5 @@
 -- What a call isn't answered with.
-use Rattle.std.specs.Prelude.{◌≡◌, Result, Ok, Err}
+use Rattle.std.specs.Prelude.{◌≡◌, Bool, true, false, Result, Ok, Err}
 use Rattle.hs_types.specs.declared.call.Reply.{Reply}
 use Rattle.hs_types.specs.declared.call.Reply.TheVariants as replies
 use Rattle.hs_types.specs.declared.call.Refusal.{Refusal}
@@ -11,6 +11,12 @@ use Rattle.hs_plain.specs.Asked.{Asked}
 abbrev pub IsFaultOf : {X : Type 0} → Asked X → AskFault → Type 0
 IsFaultOf asked (Refused why) = asked ≡ Err why
 IsFaultOf asked NoMemory = Unit {0}
+
+-- whether a call was answered, by a refusal too
+abbrev pub is_answered : Result Reply AskFault → Bool
+is_answered (Ok reply) = true
+is_answered (Err (Refused why)) = true
+is_answered (Err NoMemory) = false
 
 -- the reply that carries a result
 abbrev pub told_reply : Result Reply AskFault → Reply

@@ -1,7 +1,7 @@
 //! What modifying calls change.
 ghost use Rattle.std.specs.Prelude.{◌≡◌, ◌+◌, ◌<◌, ◌≤◌, ◌^◌, ◌++◌, [], Ok, Err, IfOk, IfErr, OnOk, OnErr, MatchResult, Some, None, true, false, not, map, length, take, drop, slice_get, vec_len, vec_capacity};
 ghost use Rattle.std.specs.List.{prefix_len, zip};
-ghost use Rattle.std.specs.FinMap.Entries.{put};
+ghost use Rattle.std.specs.FinMap.Entries.{put, is_sorted};
 ghost use Rattle.hs_types.specs.declared.call.Call.TheVariants as calls;
 ghost use Rattle.hs_plain.specs.Faults.{IsFaultOf};
 ghost use Rattle.hs_plain.specs.Tree.{path_cmp, parent_of as plain_parent_of, is_after, is_place_at as is_plain_place_at};
@@ -64,15 +64,11 @@ fn remode_all<B>(places: &mut Vec<(RelPath, Node<B>)>, path: &[Name], mode: Mode
 
 /// How many places at the front stand before a path.
 fn rank_of<B>(places: &[(RelPath, Node<B>)], path: &[Name]) -> usize
+    requires { is_sorted path_cmp places.now ≡ true }
     ensures rank { result ≡ prefix_len (is_after path.now) places.now }
     ensures within { result ≤ length places.now }
 {
-    for (rank, place) in places.iter().enumerate() {
-        if compare_paths(path, place.0.items()) != Ordering::Greater {
-            return rank;
-        }
-    }
-    places.len()
+    places.partition_point(|place| compare_paths(path, place.0.items()) == Ordering::Greater)
 }
 
 /// Whether the place with this number is at a path.
@@ -87,7 +83,8 @@ fn is_place_at<B>(places: &[(RelPath, Node<B>)], rank: usize, path: &[Name]) -> 
 
 /// Puts a node at a path, in the place of one that is there. There is room for one more.
 fn put_place<B: Drop>(places: &mut Vec<(RelPath, Node<B>)>, path: List<Name>, node: Node<B>)
-    requires { vec_len places.old < vec_capacity places.old }
+    requires room { vec_len places.old < vec_capacity places.old }
+    requires sorted { is_sorted path_cmp places.old.items ≡ true }
     ensures items { places.new.items ≡ put path_cmp path node places.old.items }
     ensures len { vec_len places.new ≤ vec_len places.old + 1 }
     ensures room { vec_capacity places.new ≡ vec_capacity places.old }
@@ -107,6 +104,7 @@ fn grow<B: Drop>(
     node: Node<B>,
     tick: u64,
 ) -> Result<(), NoMemory>
+    requires { is_sorted path_cmp tree.old ≡ true }
     ensures ok { OnOk result (tree.new ≡ put path_cmp path node (stamped tree.old (plain_parent_of path) tick)) }
     ensures err { OnErr result (tree.new ≡ tree.old) }
 {
@@ -124,6 +122,7 @@ fn grow<B: Drop>(
 fn add_node<B: Drop>(state: &mut State<B>, path: List<Name>, node: Node<B>) -> Result<(), NoMemory>
     requires ticks { state.old.tick + 1 < 2 ^ 64 }
     requires inodes { state.old.next_inode + 1 < 2 ^ 64 }
+    requires sorted { is_sorted path_cmp state.old.tree ≡ true }
     ensures ok { OnOk result (state.new ≡ with_node state.old path node) }
     ensures err { OnErr result (state.new ≡ state.old) }
 {
@@ -231,6 +230,7 @@ fn put_all<B: Drop>(
 )
     requires paths { length paths.items ≡ length places.items }
     requires room { vec_len sorted.old + vec_len places ≤ vec_capacity sorted.old }
+    requires sorted { is_sorted path_cmp sorted.old.items ≡ true }
     ensures { sorted.new.items ≡ plain_put_all sorted.old.items (map (λ pair. at_new pair.0 pair.1) (zip places.items paths.items)) }
 {
     for ((path, node), new_path) in places.into_iter().zip(paths) {
@@ -267,6 +267,7 @@ fn make_dir<B: FileBody>(
 ) -> Result<Reply, AskFault>
     requires ticks { state.old.tick + 1 < 2 ^ 64 }
     requires inodes { state.old.next_inode + 1 < 2 ^ 64 }
+    requires sorted { is_sorted path_cmp state.old.tree ≡ true }
     ensures reply { IfOk result (λ reply. asked B.files state.old (calls.Mkdir path.now) ≡ Ok reply) }
     ensures fault { IfErr result (IsFaultOf (asked B.files state.old (calls.Mkdir path.now))) }
     ensures ok { OnOk result (state.new ≡ change B.files state.old (calls.Mkdir path.now)) }
@@ -292,6 +293,7 @@ fn make_file<B: FileBody>(
 ) -> Result<Reply, AskFault>
     requires ticks { state.old.tick + 1 < 2 ^ 64 }
     requires inodes { state.old.next_inode + 1 < 2 ^ 64 }
+    requires sorted { is_sorted path_cmp state.old.tree ≡ true }
     ensures reply { IfOk result (λ reply. asked B.files state.old (calls.Create path.now over) ≡ Ok reply) }
     ensures fault { IfErr result (IsFaultOf (asked B.files state.old (calls.Create path.now over))) }
     ensures ok { OnOk result (state.new ≡ change B.files state.old (calls.Create path.now over)) }
@@ -319,6 +321,8 @@ fn delete<B: FileBody>(
     ensures reply { IfOk result (λ reply. asked B.files state.old (calls.Delete path.now recursive) ≡ Ok reply) }
     ensures fault { IfErr result (IsFaultOf (asked B.files state.old (calls.Delete path.now recursive))) }
     ensures ok { OnOk result (state.new ≡ change B.files state.old (calls.Delete path.now recursive)) }
+    ensures tick { state.new.tick ≡ state.old.tick }
+    ensures inodes { state.new.next_inode ≡ state.old.next_inode }
     ensures err { OnErr result (state.new ≡ state.old) }
 {
     let path = delete_at(alloc, state, path, recursive)?;
@@ -336,6 +340,8 @@ fn rename<B: FileBody>(
     ensures reply { IfOk result (λ reply. asked B.files state.old (calls.Rename old.now new.now) ≡ Ok reply) }
     ensures fault { IfErr result (IsFaultOf (asked B.files state.old (calls.Rename old.now new.now))) }
     ensures ok { OnOk result (state.new ≡ change B.files state.old (calls.Rename old.now new.now)) }
+    ensures tick { state.new.tick ≡ state.old.tick }
+    ensures inodes { state.new.next_inode ≡ state.old.next_inode }
     ensures err { OnErr result (state.new ≡ state.old) }
 {
     let paths = rename_at(alloc, state, old, new)?;
@@ -353,6 +359,8 @@ fn change_mode<B: FileBody>(
     ensures reply { IfOk result (λ reply. asked B.files state.old (calls.SetMode path.now mode) ≡ Ok reply) }
     ensures fault { IfErr result (IsFaultOf (asked B.files state.old (calls.SetMode path.now mode))) }
     ensures ok { OnOk result (state.new ≡ change B.files state.old (calls.SetMode path.now mode)) }
+    ensures tick { state.new.tick ≡ state.old.tick }
+    ensures inodes { state.new.next_inode ≡ state.old.next_inode }
     ensures err { OnErr result (state.new ≡ state.old) }
 {
     let path = set_mode_at(alloc, state, path)?;
@@ -370,6 +378,7 @@ pub fn make_change<B: FileBody>(
     requires modifying { is_modifying call.now ≡ true }
     requires ticks { state.old.tick + 1 < 2 ^ 64 }
     requires inodes { state.old.next_inode + 1 < 2 ^ 64 }
+    requires sorted { is_sorted path_cmp state.old.tree ≡ true }
     ensures reply { IfOk result (λ reply. asked B.files state.old call.now ≡ Ok reply) }
     ensures fault { IfErr result (IsFaultOf (asked B.files state.old call.now)) }
     ensures ok { OnOk result (state.new ≡ change B.files state.old call.now) }

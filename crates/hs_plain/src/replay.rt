@@ -1,8 +1,11 @@
 //! The state that a journal stands for.
-ghost use Rattle.std.specs.Prelude.{◌≡◌, ◌+◌, ◌<◌, ◌≤◌, ◌^◌, Ok, Err, IfOk, OnOk};
+ghost use Rattle.std.specs.Prelude.{◌≡◌, ◌+◌, ◌<◌, ◌≤◌, ◌^◌, Ok, Err, IfOk, OnOk, true};
+ghost use Rattle.std.specs.FinMap.Entries.{is_sorted};
+ghost use Rattle.hs_plain.specs.Tree.{path_cmp};
 ghost use Rattle.hs_plain.specs.State.{start as plain_start};
 ghost use Rattle.hs_plain.specs.Answer.{is_exclusive as is_plain_exclusive};
 ghost use Rattle.hs_plain.specs.Change.{changed_if, after as plain_after_entry};
+ghost use Rattle.hs_plain.specs.Faults.{is_answered as is_plain_answered};
 ghost use Rattle.hs_plain.specs.Replay.{plain_after};
 
 use crate::answer::is_exclusive;
@@ -10,7 +13,7 @@ use crate::change::make_change;
 use crate::files::FileBody;
 use crate::resolve::AskFault;
 use crate::state::{Body, Node, PlainState, State};
-use hs_types::{Call, Entry, EntryKind, InodeId, List, Mode, NoMemory};
+use hs_types::{Call, Entry, EntryKind, InodeId, List, Mode, NoMemory, Reply};
 use std::alloc::Global;
 
 /// The root alone.
@@ -35,6 +38,17 @@ pub fn start<B: Drop>(alloc: Global) -> Result<State<B>, NoMemory>
     })
 }
 
+/// Whether a call was answered: a refusal is an answer too.
+fn is_answered(made: Result<Reply, AskFault>) -> bool
+    ensures { result ≡ is_plain_answered made }
+{
+    match made {
+        Ok(_) | Err(AskFault::Refused(_)) => true,
+        Err(AskFault::NoMemory) => false,
+    }
+}
+
+#[tactic(auto, using(crate::proofs::Refusals::answered_change))]
 /// Makes a call's change, where it isn't refused. Without memory the state is of no use.
 fn make_accepted<B: FileBody>(
     alloc: Global,
@@ -43,16 +57,19 @@ fn make_accepted<B: FileBody>(
 ) -> Result<(), NoMemory>
     requires ticks { state.old.tick + 1 < 2 ^ 64 }
     requires inodes { state.old.next_inode + 1 < 2 ^ 64 }
+    requires sorted { is_sorted path_cmp state.old.tree ≡ true }
     ensures changed { OnOk result (state.new ≡ changed_if (is_plain_exclusive call.now) B.files state.old call.now) }
     ensures inodes { OnOk result (state.new.next_inode ≤ state.old.next_inode + 1) }
     ensures tick { OnOk result (state.new.tick ≡ state.old.tick) }
+    ensures sorted { OnOk result (is_sorted path_cmp state.new.tree ≡ true) }
 {
     if !is_exclusive(call) {
         return Ok(());
     }
-    match make_change(alloc, state, call) {
-        Err(AskFault::NoMemory) => Err(NoMemory),
-        Ok(_) | Err(AskFault::Refused(_)) => Ok(()),
+    if is_answered(make_change(alloc, state, call)) {
+        Ok(())
+    } else {
+        Err(NoMemory)
     }
 }
 
@@ -60,9 +77,11 @@ fn make_accepted<B: FileBody>(
 fn apply<B: FileBody>(alloc: Global, state: &mut State<B>, entry: &Entry) -> Result<(), NoMemory>
     requires ticks { state.old.tick + 1 < 2 ^ 64 }
     requires inodes { state.old.next_inode + 1 < 2 ^ 64 }
+    requires sorted { is_sorted path_cmp state.old.tree ≡ true }
     ensures after { OnOk result (state.new ≡ plain_after_entry B.files state.old entry.now) }
     ensures inodes { OnOk result (state.new.next_inode ≤ state.old.next_inode + 1) }
     ensures tick { OnOk result (state.new.tick ≡ state.old.tick + 1) }
+    ensures sorted { OnOk result (is_sorted path_cmp state.new.tree ≡ true) }
 {
     if entry.kind == EntryKind::Accepted {
         make_accepted(alloc, state, &entry.call)?;

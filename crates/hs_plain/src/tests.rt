@@ -1,3 +1,5 @@
+mod live;
+
 use crate::answer::answer_of;
 use crate::lines::lines_of;
 use crate::replay::replay;

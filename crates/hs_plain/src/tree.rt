@@ -1,6 +1,7 @@
 //! Walks, look-ups and listings of a tree, each by one pass over its places.
 ghost use Rattle.std.specs.Prelude.{◌≡◌, ◌++◌, ◌<◌, Ok, Err, IfOk, OnOk, OnErr, MatchResult, map};
 ghost use Rattle.std.specs.Option.{option_copied, option_to_list};
+ghost use Rattle.std.specs.Ordering.{is_eq};
 ghost use Rattle.hs_plain.specs.Tree.{node_at as plain_node_at, walks_above as plain_walks_above, walk as plain_walk, passes as plain_passes, path_cmp, is_dir as is_plain_dir, name_below as plain_name_below, child_item, listing as plain_listing, child_count as plain_child_count, size_of as plain_size_of, is_root_path as is_plain_root_path, is_above as is_plain_above};
 ghost use Rattle.hs_plain.specs.State.{place_of as plain_place_of};
 
@@ -29,12 +30,19 @@ pub fn compare_paths(a: &[Name], b: &[Name]) -> Ordering
     a.cmp(b)
 }
 
+/// Whether a path is that of a place. A path of another length is told by its length alone.
+fn is_path_of(place: &[Name], path: &[Name]) -> bool
+    ensures { result ≡ is_eq (path_cmp path.now place.now) }
+{
+    place.len() == path.len() && compare_paths(path, place) == Ordering::Equal
+}
+
 /// The node at a path.
 pub fn node_at<'t, B>(tree: &'t [(RelPath, Node<B>)], path: &[Name]) -> Option<&'t Node<B>>
     ensures { option_copied result ≡ plain_node_at tree.now path.now }
 {
     for (place, node) in tree {
-        if compare_paths(path, place.items()) == Ordering::Equal {
+        if is_path_of(place.items(), path) {
             return Some(node);
         }
     }

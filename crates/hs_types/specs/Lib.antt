@@ -1,3 +1,4 @@
+pub mod Blocks
 pub mod Names
 pub mod Paths
 pub mod Refusals

@@ -1,4 +1,10 @@
+pub mod Asked
+pub mod Both
+pub mod Ends
 pub mod ScriptLines
+pub mod ScriptModes
+pub mod ScriptPages
+pub mod ScriptWords
 pub mod Small
 pub mod TextModes
 pub mod Turns

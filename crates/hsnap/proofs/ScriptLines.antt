@@ -1,11 +1,12 @@
--- The first line of an input, and texts of plain bytes.
+-- The lines of an input, and the calls that they are read as.
 use Rattle.std.proofs.Common.{◌≡◌, ℕ, zero, suc, ◌+◌, ◌<◌, ◌≤◌, nat_lt, nat_le, ◌≢◌, nat_eq, bytes_eq, length-append, Bool, true, false, cond, not, ◌||◌, ◌&&◌, ◌==◌, Option, Some, None, List, [], ◌∷◌, ◌++◌, length, take, drop, get_or, refl, ap, sym, ◌∙◌, subst, arith}
 use Rattle.std.specs.List.{slice_split, onto_first, position, position_or_len, list_all}
 use Rattle.std.specs.Str.{IsUtf8}
 use Rattle.std.proofs.lemmas.Str.{IsUtf8-from_ascii}
 use Rattle.std.proofs.lemmas.Bool.Decides.{nat_tests}
-use Rattle.hsnap.specs.declared.script.Command.{Command}
-use Rattle.hsnap.specs.Script.{command_of, commands_of, with_command, script_parts, script_of, at_most_1000, is_line_feed, is_plain_byte, is_plain_name, is_plain_path}
+use Rattle.hs_types.specs.declared.call.Call.{Call}
+use Rattle.hsnap.proofs.Both.{both_first, both_second}
+use Rattle.hsnap.specs.Script.{is_line_byte, call_of, calls_of, with_call, script_parts, script_of, at_most_1000, is_line_feed}
 
 module _ {A : Type 0} (p : A → Bool) where
   -- where no element passes, the whole list is the one part
@@ -49,51 +50,25 @@ module _ {A : Type 0} (p : A → Bool) where
         | false ↦ λ t e. absurd (cc)
       ] refl found
 
--- ---- plain bytes are ASCII
+-- ---- the bytes of a line are ASCII
 
-plain_byte : (b : ℕ) → is_plain_byte b ≡ true → b < 128
-plain_byte b plain = grind (arith, nat_tests)
+line_byte : (b : ℕ) → is_line_byte b ≡ true → b < 128
+line_byte b is = grind (arith, nat_tests)
 
-both_first : (a b : Bool) → (a && b) ≡ true → a ≡ true
-both_first true b e = refl
-both_first false b e = e
+all_ascii : (bs : List ℕ) → list_all is_line_byte bs ≡ true → (i : ℕ) → get_or bs i 0 < 128
+all_ascii [] all i = omega arith
+all_ascii (b ∷ bs) all zero = line_byte b (both_first (is_line_byte b) _ all)
+all_ascii (b ∷ bs) all (suc i) = all_ascii bs (both_second (is_line_byte b) _ all) i
 
-both_second : (a b : Bool) → (a && b) ≡ true → b ≡ true
-both_second true b e = e
-both_second false b e = absurd (cc)
+pub line_utf8 : (line : List ℕ) → list_all is_line_byte line ≡ true → IsUtf8 line
+line_utf8 line all = IsUtf8-from_ascii line (all_ascii line all)
 
-all_ascii : (bs : List ℕ) → list_all is_plain_byte bs ≡ true → (i : ℕ) → get_or bs i 0 < 128
-all_ascii [] plain i = omega arith
-all_ascii (b ∷ bs) plain zero = plain_byte b (both_first (is_plain_byte b) _ plain)
-all_ascii (b ∷ bs) plain (suc i) = all_ascii bs (both_second (is_plain_byte b) _ plain) i
-
-name_ascii : (name : List ℕ) → (nat_eq (length name) 0 || is_plain_name name) ≡ true → (i : ℕ) → get_or name i 0 < 128
-name_ascii [] plain i = omega arith
-name_ascii (b ∷ bs) plain i =
-    let some : nat_eq (length (b ∷ bs)) 0 ≡ false = grind (arith, nat_tests) in
-    let named : is_plain_name (b ∷ bs) ≡ true = either (nat_eq (length (b ∷ bs)) 0) _ plain some in
-    all_ascii (b ∷ bs) (both_second (nat_le 1 (length (b ∷ bs)) && nat_le (length (b ∷ bs)) 255) _ named) i
-  where
-    either : (a b : Bool) → (a || b) ≡ true → a ≡ false → b ≡ true
-    either true b e f = absurd (cc)
-    either false b e f = e
-
-path_ascii : (path : List ℕ) → is_plain_path path ≡ true → (i : ℕ) → get_or path i 0 < 128
-path_ascii [] plain i = omega arith
-path_ascii (slash ∷ name) plain zero =
-    let is_slash : (slash == 47) ≡ true = both_first (slash == 47) _ plain in
-    grind (arith, nat_tests)
-path_ascii (slash ∷ name) plain (suc i) = name_ascii name (both_second (slash == 47) _ plain) i
-
-pub path_utf8 : (path : List ℕ) → is_plain_path path ≡ true → IsUtf8 path
-path_utf8 path plain = IsUtf8-from_ascii path (path_ascii path plain)
-
--- these commands, and then those
-abbrev pub with_front : List Command → Option (List Command) → Option (List Command)
+-- these calls, and then those
+abbrev pub with_front : List Call → Option (List Call) → Option (List Call)
 with_front front None = None
-with_front front (Some commands) = Some (front ++ commands)
+with_front front (Some calls) = Some (front ++ calls)
 
--- ---- the commands of the parts
+-- ---- the calls of the parts
 
 -- parts are never none
 parts_cons : (bytes : List ℕ) → (part : List ℕ) × (parts : List (List ℕ)) × (slice_split is_line_feed bytes ≡ part ∷ parts)
@@ -106,46 +81,46 @@ parts_cons (b ∷ bs) =
     ]
 
 -- a line before others
-pub commands_step : (line more : List ℕ) → commands_of (line ∷ slice_split is_line_feed more) ≡ with_command (command_of line) (script_parts more)
-commands_step line more =
+pub calls_step : (line more : List ℕ) → calls_of (line ∷ slice_split is_line_feed more) ≡ with_call (call_of line) (script_parts more)
+calls_step line more =
     let parts = parts_cons more in
-    ap (λ (ps : List (List ℕ)). commands_of (line ∷ ps)) parts.2 ∙ ap (λ (ps : List (List ℕ)). with_command (command_of line) (commands_of ps)) (sym parts.2)
+    ap (λ (ps : List (List ℕ)). calls_of (line ∷ ps)) parts.2 ∙ ap (λ (ps : List (List ℕ)). with_call (call_of line) (calls_of ps)) (sym parts.2)
 
-is_long : Option (List Command) → Bool
+is_long : Option (List Call) → Bool
 is_long None = true
 is_long (Some []) = false
-is_long (Some (command ∷ commands)) = true
+is_long (Some (call ∷ calls)) = true
 
-longer : (command : Option Command) (more : Option (List Command)) → is_long (with_command command more) ≡ true
+longer : (call : Option Call) (more : Option (List Call)) → is_long (with_call call more) ≡ true
 unfolding is_long
 longer None more = refl
-longer (Some command) None = refl
-longer (Some command) (Some commands) = refl
+longer (Some call) None = refl
+longer (Some call) (Some calls) = refl
 
-two_parts : (first : List ℕ) (parts : List (List ℕ)) → bytes_eq first [] ≡ false → is_long (commands_of (first ∷ parts)) ≡ true
+two_parts : (first : List ℕ) (parts : List (List ℕ)) → bytes_eq first [] ≡ false → is_long (calls_of (first ∷ parts)) ≡ true
 unfolding is_long
 two_parts first [] some = ap (λ b. is_long (cond b (Some []) None)) some
-two_parts first (next ∷ parts) some = longer (command_of first) (commands_of (next ∷ parts))
+two_parts first (next ∷ parts) some = longer (call_of first) (calls_of (next ∷ parts))
 
--- behind a line feed, or at the front, what isn't empty has a command or is none
+-- behind a line feed, or at the front, what isn't empty has a call or is none
 rest_long : (b : ℕ) (bs : List ℕ) → is_long (script_parts (b ∷ bs)) ≡ true
 rest_long b bs =
     let rest = parts_cons bs in
-    elim (is_line_feed b) as (λ t. is_long (commands_of (cond t ([] ∷ slice_split is_line_feed bs) (onto_first b (slice_split is_line_feed bs)))) ≡ true) [
-      | true ↦ ap (λ (ps : List (List ℕ)). is_long (commands_of ([] ∷ ps))) rest.2 ∙ longer (command_of []) (commands_of (rest.0 ∷ rest.1))
-      | false ↦ ap (λ (ps : List (List ℕ)). is_long (commands_of (onto_first b ps))) rest.2 ∙ two_parts (b ∷ rest.0) rest.1 refl
+    elim (is_line_feed b) as (λ t. is_long (calls_of (cond t ([] ∷ slice_split is_line_feed bs) (onto_first b (slice_split is_line_feed bs)))) ≡ true) [
+      | true ↦ ap (λ (ps : List (List ℕ)). is_long (calls_of ([] ∷ ps))) rest.2 ∙ longer (call_of []) (calls_of (rest.0 ∷ rest.1))
+      | false ↦ ap (λ (ps : List (List ℕ)). is_long (calls_of (onto_first b ps))) rest.2 ∙ two_parts (b ∷ rest.0) rest.1 refl
     ]
 
-too_many : (front : List Command) (more : Option (List Command)) → 1000 ≤ length front → is_long more ≡ true → at_most_1000 (with_front front more) ≡ None
+too_many : (front : List Call) (more : Option (List Call)) → 1000 ≤ length front → is_long more ≡ true → at_most_1000 (with_front front more) ≡ None
 unfolding is_long
 too_many front None full long = refl
 too_many front (Some []) full long = absurd (cc)
-too_many front (Some (command ∷ commands)) full long =
-    let count = length (front ++ command ∷ commands) in
-    let many : nat_le count 1000 ≡ false = grind (arith, nat_tests, length-append front (command ∷ commands)) in
-    ap (λ b. cond b (Some (front ++ command ∷ commands)) None) many
+too_many front (Some (call ∷ calls)) full long =
+    let count = length (front ++ call ∷ calls) in
+    let many : nat_le count 1000 ≡ false = grind (arith, nat_tests, length-append front (call ∷ calls)) in
+    ap (λ b. cond b (Some (front ++ call ∷ calls)) None) many
 
--- where 1,000 commands are read, nothing may follow
-pub full : (front : List Command) (rest all : List ℕ) → with_front front (script_parts rest) ≡ script_parts all → 1000 ≤ length front → rest ≢ [] → script_of all ≡ None
+-- where 1,000 calls are read, nothing may follow
+pub full : (front : List Call) (rest all : List ℕ) → with_front front (script_parts rest) ≡ script_parts all → 1000 ≤ length front → rest ≢ [] → script_of all ≡ None
 full front [] all is many some = absurd (some refl)
 full front (b ∷ bs) all is many some = sym (ap at_most_1000 is) ∙ too_many front (script_parts (b ∷ bs)) many (rest_long b bs)

@@ -1,4 +1,4 @@
--- One more command of a run.
+-- One more call of a run.
 use Rattle.std.proofs.Common.{◌≡◌, ℕ, zero, suc, ◌+◌, ◌^◌, ◌-◌, nat_lt, nat_le, Bool, true, false, cond, ◌||◌, ◌&&◌, ◌==◌, Option, Some, None, List, [], ◌∷◌, ◌++◌, map, length, slice_get, refl, ap, sym, ◌∙◌, subst, length-append, arith}
 use Rattle.std.specs.Option.{option_to_list}
 use Rattle.std.specs.List.{list_all, filter, filter_map, cons_option, AllByRecursion}
@@ -10,29 +10,19 @@ use Rattle.hs_types.specs.declared.ids.CallerId.{CallerId}
 use Rattle.hs_types.specs.declared.call.Call.{Call}
 use Rattle.hs_types.specs.declared.call.Entry.{Entry}
 use Rattle.hs_types.specs.declared.call.Answered.{Answered}
-use Rattle.hs_plain.specs.Answer.{plain_after, answer, is_proper}
+use Rattle.hs_plain.specs.Answer.{answer}
+use Rattle.hs_plain.specs.Replay.{plain_after, is_proper}
 use Rattle.hs_plain.specs.Legal.{Said, IsLegalCall, is_caller, entry_left, accepted_entry, leaves_entry, reach_of, numbers_rise, places_rise}
 use Rattle.hsnap.specs.declared.ran.LogItem.{LogItem}
-use Rattle.hsnap.specs.declared.script.Command.{Command}
 use Rattle.hsnap.specs.declared.ran.ClientLog.{ClientLog}
 use Rattle.hsnap.specs.declared.ran.End.{End}
 use Rattle.hsnap.specs.declared.ran.Status.TheVariants.{Ok as Ok_status}
-use Rattle.hsnap.specs.Run.{IsRun, IsEndOf, logs_of, call_of, setup_caller, items_from, item_of, is_last, in_turn, IsHistory}
+use Rattle.hsnap.specs.Run.{IsRun, IsEndOf, logs_of, setup_caller, items_from, item_of, is_last, in_turn, IsHistory}
 use Rattle.hsnap.specs.Turn.{counted, turn_end, IsSoFar}
+use Rattle.hsnap.proofs.Both.{both_first, both_second, both_yes}
 
 same_number : (n : ℕ) → (n == n) ≡ true
 same_number n = grind (arith, nat_tests)
-
-and_yes : (a b : Bool) → a ≡ true → b ≡ true → (a && b) ≡ true
-and_yes a b p q = ap (λ t. t && b) p ∙ q
-
-pub first_yes : (a b : Bool) → (a && b) ≡ true → a ≡ true
-first_yes true b e = refl
-first_yes false b e = e
-
-pub second_yes : (a b : Bool) → (a && b) ≡ true → b ≡ true
-second_yes true b e = e
-second_yes false b e = absurd (cc)
 
 -- ---- legal stays legal as the journal grows
 
@@ -68,14 +58,14 @@ items-push line (t ∷ said) s =
     ∙ ap (λ n. item_of line t.told ∷ (items_from (line + 1) said ++ item_of n s.told ∷ [])) {x = line + 1 + length said} {y = line + suc (length said)} (omega arith)
 
 counted-push : (seq : ℕ) (said : List Said) (s : Said) → counted seq said ≡ true → s.seq ≡ seq + length said + 1 → counted seq (said ++ s ∷ []) ≡ true
-counted-push seq [] s numbers next = and_yes (s.seq == seq + 1) true (ap (λ n. n == seq + 1) {y = seq + 1} (omega (arith, next)) ∙ same_number (seq + 1)) refl
+counted-push seq [] s numbers next = both_yes (s.seq == seq + 1) true (ap (λ n. n == seq + 1) {y = seq + 1} (omega (arith, next)) ∙ same_number (seq + 1)) refl
 counted-push seq (t ∷ said) s numbers next =
-    and_yes (t.seq == seq + 1) _ (first_yes (t.seq == seq + 1) _ numbers) (counted-push (seq + 1) said s (second_yes (t.seq == seq + 1) _ numbers) (omega (arith, next)))
+    both_yes (t.seq == seq + 1) _ (both_first (t.seq == seq + 1) _ numbers) (counted-push (seq + 1) said s (both_second (t.seq == seq + 1) _ numbers) (omega (arith, next)))
 
 in_turn-push : (entries : ℕ) (said : List Said) (s : Said) → in_turn entries said ≡ true → s.told.position ≡ turn_end entries said → in_turn entries (said ++ s ∷ []) ≡ true
-in_turn-push entries [] s turn next = and_yes (s.told.position == entries) true (ap (λ n. n == entries) next ∙ same_number entries) refl
+in_turn-push entries [] s turn next = both_yes (s.told.position == entries) true (ap (λ n. n == entries) next ∙ same_number entries) refl
 in_turn-push entries (t ∷ said) s turn next =
-    and_yes (t.told.position == entries) _ (first_yes (t.told.position == entries) _ turn) (in_turn-push (reach_of t.call t.told) said s (second_yes (t.told.position == entries) _ turn) next)
+    both_yes (t.told.position == entries) _ (both_first (t.told.position == entries) _ turn) (in_turn-push (reach_of t.call t.told) said s (both_second (t.told.position == entries) _ turn) next)
 
 turn_end-push : (entries : ℕ) (said : List Said) (s : Said) → turn_end entries (said ++ s ∷ []) ≡ reach_of s.call s.told
 turn_end-push entries [] s = refl
@@ -89,7 +79,7 @@ filter_map-push {A} {B} f xs y = filter_map-append f xs (y ∷ []) ∙ ap (λ (z
     one (Some b) = refl
 
 list_all-push : {A : Type 0} (p : A → Bool) (xs ys : List A) → list_all p xs ≡ true → list_all p ys ≡ true → list_all p (xs ++ ys) ≡ true
-list_all-push p xs ys all more = list_all-append p xs ys ∙ and_yes (list_all p xs) (list_all p ys) all more
+list_all-push p xs ys all more = list_all-append p xs ys ∙ both_yes (list_all p xs) (list_all p ys) all more
 
 -- what one call leaves is its caller's
 left_is_own : (said : Said) → filter (is_caller setup_caller) (option_to_list (entry_left setup_caller said)) ≡ option_to_list (entry_left setup_caller said)
@@ -114,7 +104,7 @@ reach_is_length journal said next =
       | false ↦ omega (arith, next, length-append journal (left false))
     ]
 
--- one more command in its turn
+-- one more call in its turn
 pub so_far_grows : (calls : List Call) (journal new : List Entry) (items : List LogItem) (said : Said) →
     IsSoFar calls journal items → IsLegalCall new setup_caller said.seq said.call said.told → said.told.position ≡ length journal →
     new ≡ journal ++ option_to_list (entry_left setup_caller said) → said.seq ≡ length calls + 1 → is_last said ≡ true →
@@ -143,7 +133,7 @@ so_far_grows calls journal new items said kept legal next grows number last =
           ∙ ap (λ (es : List Entry). filter_map (entry_left setup_caller) before ++ es) (left_is_own said)
           ∙ sym (filter_map-push (entry_left setup_caller) before said);
       alone = ap (list_all (is_caller setup_caller)) grows ∙ list_all-push (is_caller setup_caller) journal left kept.alone (left_alone said);
-      last = list_all-push is_last before (said ∷ []) kept.last (and_yes (is_last said) true last refl);
+      last = list_all-push is_last before (said ∷ []) kept.last (both_yes (is_last said) true last refl);
     }
 
 pub so_far_none : IsSoFar [] [] []
@@ -154,19 +144,19 @@ so_far_none = record { said = []; calls_are = refl; items_are = refl; each = tt;
 numbers_rise-counted : (seq : ℕ) (said : List Said) → counted seq said ≡ true → numbers_rise seq said ≡ true
 numbers_rise-counted seq [] numbers = refl
 numbers_rise-counted seq (s ∷ said) numbers =
-    let is : (s.seq == seq + 1) ≡ true = first_yes (s.seq == seq + 1) _ numbers in
+    let is : (s.seq == seq + 1) ≡ true = both_first (s.seq == seq + 1) _ numbers in
     let next : s.seq ≡ seq + 1 = grind (arith, nat_tests) in
     let higher : nat_lt seq s.seq ≡ true = grind (arith, nat_tests) in
-    and_yes (nat_lt seq s.seq || (seq == 2 ^ 64 - 1 && s.seq == 2 ^ 64 - 1)) _
+    both_yes (nat_lt seq s.seq || (seq == 2 ^ 64 - 1 && s.seq == 2 ^ 64 - 1)) _
     (ap (λ b. b || (seq == 2 ^ 64 - 1 && s.seq == 2 ^ 64 - 1)) higher)
-    (numbers_rise-counted s.seq said (ap (λ n. counted n said) next ∙ second_yes (s.seq == seq + 1) _ numbers))
+    (numbers_rise-counted s.seq said (ap (λ n. counted n said) next ∙ both_second (s.seq == seq + 1) _ numbers))
 
 places_rise-in_turn : (entries : ℕ) (said : List Said) → in_turn entries said ≡ true → places_rise entries said ≡ true
 places_rise-in_turn entries [] turn = refl
 places_rise-in_turn entries (s ∷ said) turn =
-    let is : (s.told.position == entries) ≡ true = first_yes (s.told.position == entries) _ turn in
+    let is : (s.told.position == entries) ≡ true = both_first (s.told.position == entries) _ turn in
     let within : nat_le entries s.told.position ≡ true = grind (arith, nat_tests) in
-    and_yes (nat_le entries s.told.position) _ within (places_rise-in_turn (reach_of s.call s.told) said (second_yes (s.told.position == entries) _ turn))
+    both_yes (nat_le entries s.told.position) _ within (places_rise-in_turn (reach_of s.call s.told) said (both_second (s.told.position == entries) _ turn))
 
 pub history : (calls : List Call) (journal : List Entry) (items : List LogItem) (proper : is_proper journal ≡ true) (kept : IsSoFar calls journal items) → IsHistory journal kept.said
 history calls journal items proper kept =
@@ -176,12 +166,12 @@ history calls journal items proper kept =
       alone = kept.alone;
     }
 
--- a run of all commands, with what is shown at its end
-pub whole_run : (commands : List Command) (made left source target : List Entry) (items : List LogItem) (logs : List ClientLog) (source_end target_end : End) →
-    IsSoFar (map call_of commands) made items → left ≡ [] → source ≡ made → target ≡ left → is_proper made ≡ true → logs ≡ logs_of items → IsEndOf made source_end → IsEndOf left target_end →
-    IsRun commands (record { status = Ok_status; source = source; target = target; logs = logs; source_end = source_end; target_end = target_end })
+-- a run of all calls, with what is shown at its end
+pub whole_run : (calls : List Call) (made left source target : List Entry) (items : List LogItem) (logs : List ClientLog) (source_end target_end : End) →
+    IsSoFar calls made items → left ≡ [] → source ≡ made → target ≡ left → is_proper made ≡ true → logs ≡ logs_of items → IsEndOf made source_end → IsEndOf left target_end →
+    IsRun calls (record { status = Ok_status; source = source; target = target; logs = logs; source_end = source_end; target_end = target_end })
 unfolding so_far_none
-whole_run commands made left source target items logs source_end target_end kept new source_is target_is proper logged source_shown target_shown =
+whole_run calls made left source target items logs source_end target_end kept new source_is target_is proper logged source_shown target_shown =
     let empty : target ≡ [] = target_is ∙ new in
     record {
       said = kept.said;
@@ -189,7 +179,7 @@ whole_run commands made left source target items logs source_end target_end kept
       logs = logged ∙ ap logs_of kept.items_are;
       last = kept.last;
       turn = kept.turn;
-      source = subst (λ (j : List Entry). IsHistory j kept.said) (sym source_is) (history (map call_of commands) made items proper kept);
+      source = subst (λ (j : List Entry). IsHistory j kept.said) (sym source_is) (history calls made items proper kept);
       target = subst (λ (j : List Entry). IsHistory j []) (sym empty) (history [] [] [] refl so_far_none);
       source_end = subst (λ (j : List Entry). IsEndOf j source_end) (sym source_is) source_shown;
       target_end = subst (λ (j : List Entry). IsEndOf j target_end) (sym target_is) target_shown;

@@ -1,4 +1,5 @@
 pub mod CallText
+pub mod Pages
 pub mod ReadStatus
 pub mod Run
 pub mod Script

@@ -4,17 +4,14 @@ use Rattle.std.specs.List.{list_all}
 use Rattle.hs_types.specs.declared.ids.CallerId.{CallerId}
 use Rattle.hs_types.specs.declared.ids.Side.TheVariants.{Source}
 use Rattle.hs_types.specs.declared.call.Call.{Call}
-use Rattle.hs_types.specs.declared.call.Call.TheVariants as calls
 use Rattle.hs_types.specs.declared.call.Reply.{Reply}
-use Rattle.hs_types.specs.declared.call.Reply.TheVariants.{Made, Page, Refused, NoMemory}
+use Rattle.hs_types.specs.declared.call.Reply.TheVariants.{Made, Done, Stat, Page, Refused, NoMemory}
 use Rattle.hs_types.specs.declared.call.ListCursor.{ListCursor}
 use Rattle.hs_types.specs.declared.call.Entry.{Entry}
 use Rattle.hs_types.specs.declared.call.Answered.{Answered}
-use Rattle.hs_plain.specs.Answer.{plain_after, is_proper}
+use Rattle.hs_plain.specs.Replay.{plain_after, is_proper}
 use Rattle.hs_plain.specs.Legal.{Said, AreLegalCalls, is_caller, reach_of}
 use Rattle.hs_plain.specs.Lines.{tree_lines}
-use Rattle.hsnap.specs.declared.script.Command.{Command}
-use Rattle.hsnap.specs.declared.script.Command.TheVariants.{Mkdir, Ls}
 use Rattle.hsnap.specs.declared.ran.Ran.{Ran}
 use Rattle.hsnap.specs.declared.ran.End.{End}
 use Rattle.hsnap.specs.declared.ran.ClientLog.{ClientLog}
@@ -26,16 +23,11 @@ use Rattle.hsnap.specs.declared.ran.LogWhat.TheVariants.{Replies}
 abbrev pub setup_caller : CallerId
 setup_caller = record { 0 = 0 }
 
--- the call of a command; a page has 1,000 entries
-abbrev pub call_of : Command → Call
-call_of (Mkdir path) = calls.Mkdir path
-call_of (Ls path) = calls.List path 1000
-
--- what one command printed: its line, and the reply of its call
+-- what one line printed: its number, and the reply of its call
 abbrev pub item_of : ℕ → Answered → LogItem
 item_of line told = record { line = line; what = Replies Source (told ∷ []) }
 
--- an item for each command, by rising lines
+-- an item for each call, by rising lines
 abbrev pub items_from : ℕ → List Said → List LogItem
 items_from line [] = []
 items_from line (said ∷ more) = item_of line said.told ∷ items_from (line + 1) more
@@ -51,6 +43,8 @@ is_cursor (Some cursor) = true
 -- a reply with a cursor has a further page
 abbrev pub goes_on : Reply → Bool
 goes_on (Made id) = false
+goes_on Done = false
+goes_on (Stat id is_dir mode stamp size) = false
 goes_on (Page items next) = is_cursor next
 goes_on (Refused why) = false
 goes_on NoMemory = false
@@ -76,10 +70,10 @@ pub record IsEndOf (journal : List Entry) (end : End) : Type 0 where
   pub snapshots : end.counts.snapshots ≡ length (plain_after journal).members
   pub rows : length (plain_after journal).tree ≤ end.counts.rows
 
--- the run of a script's commands, one after the other, on the source; nothing happens on the target yet
-pub record IsRun (commands : List Command) (ran : Ran) : Type 0 where
+-- the run of a script's calls, one after the other, on the source; nothing happens on the target yet
+pub record IsRun (script : List Call) (ran : Ran) : Type 0 where
   pub said : List Said
-  pub calls : map (λ s. s.call) said ≡ map call_of commands
+  pub calls : map (λ s. s.call) said ≡ script
   pub logs : ran.logs ≡ logs_of (items_from 1 said)
   pub last : list_all is_last said ≡ true
   pub turn : in_turn 0 said ≡ true

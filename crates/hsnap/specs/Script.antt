@@ -1,55 +1,106 @@
 -- What the bytes of an input mean as a script.
-use Rattle.std.specs.Prelude.{ℕ, Bool, false, ◌&&◌, ◌||◌, ◌==◌, nat_le, nat_eq, bytes_eq, codes, if◌then◌else◌, List, [], ◌∷◌, length, drop, Option, Some, None}
-use Rattle.std.specs.List.{list_all, slice_split, starts_with}
-use Rattle.hsnap.specs.declared.script.Command.{Command}
-use Rattle.hsnap.specs.declared.script.Command.TheVariants.{Mkdir, Ls}
+use Rattle.std.specs.Prelude.{ℕ, Bool, not, ◌&&◌, ◌==◌, nat_le, bytes_eq, codes, true, false, if◌then◌else◌, List, [], ◌∷◌, length, Option, Some, None}
+use Rattle.std.specs.List.{list_all, slice_split}
+use Rattle.std.specs.Str.Parse.{digits_value}
+use Rattle.hs_types.specs.declared.call.Call.{Call}
+use Rattle.hs_types.specs.declared.call.Call.TheVariants as calls
 
 abbrev pub is_line_feed : ℕ → Bool
 is_line_feed byte = byte == 10
 
--- a lower-case ASCII letter or a digit
-abbrev pub is_plain_byte : ℕ → Bool
-is_plain_byte byte = (nat_le 97 byte && nat_le byte 122) || (nat_le 48 byte && nat_le byte 57)
+abbrev pub is_space : ℕ → Bool
+is_space byte = byte == 32
 
--- one name of 1 to 255 such bytes
-abbrev pub is_plain_name : List ℕ → Bool
-is_plain_name name = nat_le 1 (length name) && nat_le (length name) 255 && list_all is_plain_byte name
+-- ---- words
 
--- `/`, or `/` and one name
-abbrev pub is_plain_path : List ℕ → Bool
-is_plain_path [] = false
-is_plain_path (slash ∷ name) = slash == 47 && (nat_eq (length name) 0 || is_plain_name name)
+-- a space or a printing ASCII character, and neither `#` nor `%`
+abbrev pub is_line_byte : ℕ → Bool
+is_line_byte byte = nat_le 32 byte && nat_le byte 126 && not (byte == 35) && not (byte == 37)
 
--- a line is these words and a path
-abbrev pub is_command_line : List ℕ → List ℕ → Bool
-is_command_line words line = starts_with nat_eq line words && is_plain_path (drop (length words) line)
+-- what stands between spaces: where two spaces meet, or one stands at an end, a word is empty
+abbrev pub words : List ℕ → List (List ℕ)
+words line = slice_split is_space line
 
--- a line is `s mkdir P` or `s ls P`
-abbrev pub command_of : List ℕ → Option Command
-command_of line =
-    if is_command_line (codes "s mkdir ") line then Some (Mkdir (drop 8 line))
-    else if is_command_line (codes "s ls ") line then Some (Ls (drop 5 line))
+abbrev pub is_full : List ℕ → Bool
+is_full word = nat_le 1 (length word)
+
+-- the line has the bytes of a line, and exactly one space between two words
+abbrev pub is_worded : List ℕ → Bool
+is_worded line = list_all is_line_byte line && list_all is_full (words line)
+
+-- ---- modes
+
+abbrev pub is_octal_digit : ℕ → Bool
+is_octal_digit byte = nat_le 48 byte && nat_le byte 55
+
+-- 1 to 4 octal digits
+abbrev pub is_octal : List ℕ → Bool
+is_octal word = nat_le 1 (length word) && nat_le (length word) 4 && list_all is_octal_digit word
+
+-- the number that they write, at most 1777 octal
+abbrev pub mode_of : List ℕ → Option ℕ
+mode_of word = if is_octal word && nat_le (digits_value 8 word) 1023 then Some (digits_value 8 word) else None
+
+-- ---- calls
+
+-- the call of a command with one path; a page has 1,000 entries
+abbrev pub path_call : List ℕ → List ℕ → Option Call
+path_call command path =
+    if bytes_eq command (codes "mkdir") then Some (calls.Mkdir path)
+    else if bytes_eq command (codes "create") then Some (calls.Create path false)
+    else if bytes_eq command (codes "createover") then Some (calls.Create path true)
+    else if bytes_eq command (codes "rm") then Some (calls.Delete path false)
+    else if bytes_eq command (codes "rmr") then Some (calls.Delete path true)
+    else if bytes_eq command (codes "stat") then Some (calls.Stat path)
+    else if bytes_eq command (codes "ls") then Some (calls.List path 1000)
     else None
 
-abbrev pub with_command : Option Command → Option (List Command) → Option (List Command)
-with_command None more = None
-with_command (Some command) None = None
-with_command (Some command) (Some commands) = Some (command ∷ commands)
+abbrev pub chmod_call : List ℕ → Option ℕ → Option Call
+chmod_call path None = None
+chmod_call path (Some mode) = Some (calls.SetMode path mode)
 
--- the commands of the parts between line feeds: behind the last line feed nothing stands
-abbrev pub commands_of : List (List ℕ) → Option (List Command)
-commands_of [] = None
-commands_of (last ∷ []) = if bytes_eq last [] then Some [] else None
-commands_of (line ∷ next ∷ lines) = with_command (command_of line) (commands_of (next ∷ lines))
+-- the call of a command with a path and one more word
+abbrev pub pair_call : List ℕ → List ℕ → List ℕ → Option Call
+pair_call command path word =
+    if bytes_eq command (codes "mv") then Some (calls.Rename path word)
+    else if bytes_eq command (codes "chmod") then chmod_call path (mode_of word)
+    else None
 
--- the commands of the lines, each ended by a line feed
-abbrev pub script_parts : List ℕ → Option (List Command)
-script_parts bytes = commands_of (slice_split is_line_feed bytes)
+abbrev pub call_of_command : List (List ℕ) → Option Call
+call_of_command (command ∷ path ∷ []) = path_call command path
+call_of_command (command ∷ path ∷ word ∷ []) = pair_call command path word
+call_of_command words = None
 
-abbrev pub at_most_1000 : Option (List Command) → Option (List Command)
+-- the side stands before the command
+abbrev pub call_of_words : List (List ℕ) → Option Call
+call_of_words [] = None
+call_of_words (side ∷ words) = if bytes_eq side (codes "s") then call_of_command words else None
+
+-- the call of a line
+abbrev pub call_of : List ℕ → Option Call
+call_of line = if is_worded line then call_of_words (words line) else None
+
+-- ---- lines
+
+abbrev pub with_call : Option Call → Option (List Call) → Option (List Call)
+with_call None more = None
+with_call (Some call) None = None
+with_call (Some call) (Some calls) = Some (call ∷ calls)
+
+-- the calls of the parts between line feeds: behind the last line feed nothing stands
+abbrev pub calls_of : List (List ℕ) → Option (List Call)
+calls_of [] = None
+calls_of (last ∷ []) = if bytes_eq last [] then Some [] else None
+calls_of (line ∷ next ∷ lines) = with_call (call_of line) (calls_of (next ∷ lines))
+
+-- the calls of the lines, each ended by a line feed
+abbrev pub script_parts : List ℕ → Option (List Call)
+script_parts bytes = calls_of (slice_split is_line_feed bytes)
+
+abbrev pub at_most_1000 : Option (List Call) → Option (List Call)
 at_most_1000 None = None
-at_most_1000 (Some commands) = if nat_le (length commands) 1000 then Some commands else None
+at_most_1000 (Some calls) = if nat_le (length calls) 1000 then Some calls else None
 
--- a script in its first form: at most 1,000 lines, each a command
-abbrev pub script_of : List ℕ → Option (List Command)
+-- a script in its first form: at most 1,000 lines, each with one call
+abbrev pub script_of : List ℕ → Option (List Call)
 script_of bytes = at_most_1000 (script_parts bytes)

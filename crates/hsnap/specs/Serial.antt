@@ -1,7 +1,7 @@
 -- What a call of the program promises.
 use Rattle.std.specs.Prelude.{◌≡◌, ℕ, ◌+◌, ◌≤◌, Bool, true, false, bytes_eq, codes, List, [], ◌∷◌, length, Option, Some, None}
 use Rattle.hs_io.specs.Bytes.{Gives, Takes, IsEnded}
-use Rattle.hsnap.specs.declared.script.Command.{Command}
+use Rattle.hs_types.specs.declared.call.Call.{Call}
 use Rattle.hsnap.specs.declared.ran.Ran.{Ran}
 use Rattle.hsnap.specs.declared.ran.End.{End}
 use Rattle.hsnap.specs.declared.ran.Status.{Status}
@@ -26,17 +26,17 @@ pub record WasRead (before now : Option (List ℕ)) (bytes : List ℕ) : Type 0 
   pub ended : IsEnded now
   pub within : length bytes ≤ most_bytes
 
--- the bytes read mean these commands
-pub record IsScriptRead (before now : Option (List ℕ)) (commands : List Command) : Type 0 where
+-- the bytes read mean these calls
+pub record IsScriptRead (before now : Option (List ℕ)) (calls : List Call) : Type 0 where
   pub bytes : List ℕ
   pub read : WasRead before now bytes
-  pub means : script_of bytes ≡ Some commands
+  pub means : script_of bytes ≡ Some calls
 
 -- the bytes read mean a script, the run is one of it in turn, and its text was written
 pub record IsDone (before now written_before written_now : Option (List ℕ)) (ran : Ran) : Type 0 where
-  pub commands : List Command
-  pub script : IsScriptRead before now commands
-  pub run : IsRun commands ran
+  pub calls : List Call
+  pub script : IsScriptRead before now calls
+  pub run : IsRun calls ran
   pub text : Takes written_before written_now (text_of ran)
 
 -- the bytes read are no script

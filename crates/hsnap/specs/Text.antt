@@ -6,7 +6,7 @@ use Rattle.hs_types.specs.Refusals.{number_of, refusal_name}
 use Rattle.hs_types.specs.declared.ids.Side.{Side}
 use Rattle.hs_types.specs.declared.ids.Side.TheVariants.{Source, Target}
 use Rattle.hs_types.specs.declared.call.Reply.{Reply}
-use Rattle.hs_types.specs.declared.call.Reply.TheVariants.{Made, Page, Refused, NoMemory}
+use Rattle.hs_types.specs.declared.call.Reply.TheVariants.{Made, Done, Stat, Page, Refused, NoMemory}
 use Rattle.hs_types.specs.declared.call.Item.{Item}
 use Rattle.hs_types.specs.declared.call.ListCursor.{ListCursor}
 use Rattle.hs_types.specs.declared.call.Answered.{Answered}
@@ -41,6 +41,8 @@ more_or_end (Some cursor) = codes "more"
 -- a reply, without what it lists
 abbrev pub reply_text : Reply → List ℕ
 reply_text (Made id) = spaced (codes "made" ∷ decimal id.0 ∷ [])
+reply_text Done = codes "done"
+reply_text (Stat id is_dir mode stamp size) = spaced (kind_word is_dir ∷ decimal id.0 ∷ mode_text mode ∷ decimal stamp ∷ decimal size ∷ [])
 reply_text (Page items next) = spaced (codes "page" ∷ decimal (length items) ∷ more_or_end next ∷ [])
 reply_text (Refused why) = spaced (codes "refused" ∷ decimal (number_of why) ∷ refusal_name why ∷ [])
 reply_text NoMemory = codes "no memory"
@@ -52,6 +54,8 @@ item_text item = spaced (kind_word item.is_dir ∷ decimal item.id.0 ∷ escaped
 -- what a reply lists, a line each
 abbrev pub further_lines : Reply → List (List ℕ)
 further_lines (Made id) = []
+further_lines Done = []
+further_lines (Stat id is_dir mode stamp size) = []
 further_lines (Page items next) = map item_text items
 further_lines (Refused why) = []
 further_lines NoMemory = []

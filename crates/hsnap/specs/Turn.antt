@@ -1,4 +1,4 @@
--- A run so far: what the commands up to one have been told.
+-- A run so far: what the calls up to one have been told.
 use Rattle.std.specs.Prelude.{◌≡◌, ℕ, ◌+◌, Bool, true, ◌&&◌, ◌==◌, List, [], ◌∷◌, map, length}
 use Rattle.std.specs.List.{list_all, filter, filter_map, AllByRecursion}
 use Rattle.hs_types.specs.declared.call.Call.{Call}

@@ -1,24 +1,18 @@
 //! The reader of scripts in their first form.
-ghost use Rattle.std.specs.Prelude.{◌≡◌, ◌≢◌, ◌≤◌, ◌<◌, ◌∷◌, [], Some, None, is_some, IfOk, IfSome, IfNone, IfErr, IsErrOf, drop, true, length};
-ghost use Rattle.hsnap.specs.Script.{is_plain_byte, is_plain_name, is_plain_path, is_command_line, command_of as plain_command_of, script_of, script_parts, with_command, is_line_feed};
+ghost use Rattle.std.specs.Prelude.{◌≡◌, ◌≢◌, ◌≤◌, ◌<◌, ◌∷◌, [], Some, None, IfOk, IfSome, IfNone, IfErr, true, false, length, map};
+ghost use Rattle.hsnap.specs.Script.{is_line_byte, is_full, words as plain_words, is_octal_digit, mode_of as plain_mode_of, path_call as plain_path_call, pair_call as plain_pair_call, call_of_command as plain_call_of_command, call_of_words as plain_call_of_words, call_of as plain_call_of, script_of, script_parts, with_call, is_line_feed};
+ghost use Rattle.hsnap.specs.Pages.{has_greatest_page};
 ghost use Rattle.hsnap.specs.ScriptFaults.{IsScriptFault};
 ghost use Rattle.hsnap.specs.declared.script.ScriptFault.TheVariants.{NoMemory as fault_no_memory};
 ghost use Rattle.std.specs.List.{slice_split, list_all, position};
 
-use hs_types::{List, NoMemory, PathText};
-use std::alloc::{AllocFailed, Global};
-
-/// A command of a script, by the source's client.
-#[derive(Debug, Drop, PartialEq, Eq)]
-pub enum Command {
-    Mkdir { path: PathText },
-    Ls { path: PathText },
-}
+use hs_types::{Call, List, Mode, NoMemory, PageSize, PathText};
+use std::alloc::{AllocError, AllocFailed, Global};
 
 /// Why an input isn't read as a script.
 #[derive(Clone, Copy, Debug, PartialEq, Eq)]
 pub enum ScriptFault {
-    /// The first line that is no command, from 1.
+    /// The first line that isn't of the form, from 1.
     Bad { line: u32 },
     NoMemory,
 }
@@ -39,74 +33,168 @@ impl<T: Drop> From<AllocFailed<T>> for ScriptFault {
     }
 }
 
-fn is_plain_byte(byte: u8) -> bool
-    ensures { result ≡ is_plain_byte byte }
+fn is_line_byte(byte: u8) -> bool
+    ensures { result ≡ is_line_byte byte }
 {
-    matches!(byte, b'a'..=b'z' | b'0'..=b'9')
+    matches!(byte, b' '..=b'~') && byte != b'#' && byte != b'%'
 }
 
-fn all_plain(name: &[u8]) -> bool
-    ensures { result ≡ list_all is_plain_byte name.now }
+fn has_line_bytes(line: &[u8]) -> bool
+    ensures { result ≡ list_all is_line_byte line.now }
 {
-    name.iter().all(|byte| is_plain_byte(*byte))
+    line.iter().all(|byte| is_line_byte(*byte))
 }
 
-fn is_plain_name(name: &[u8]) -> bool
-    ensures { result ≡ is_plain_name name.now }
+/// The line as a text, if it has the bytes of a line.
+fn text_of(line: &[u8]) -> Option<&str>
+    ensures some { IfSome result (λ text. (list_all is_line_byte line.now ≡ true) × (text.now ≡ line.now)) }
+    ensures none { IfNone result (list_all is_line_byte line.now ≡ false) }
 {
-    let all_plain = all_plain(name);
-    1 <= name.len() && name.len() <= 255 && all_plain
-}
-
-fn is_plain_path(path: &[u8]) -> bool
-    ensures { result ≡ is_plain_path path.now }
-{
-    match path {
-        [b'/'] => true,
-        [b'/', name @ ..] => is_plain_name(name),
-        _ => false,
+    if !has_line_bytes(line) {
+        return None;
     }
-}
-
-/// The text of a path of the form.
-fn path_text(alloc: Global, path: &[u8]) -> Result<PathText, NoMemory>
-    requires { is_plain_path path.now ≡ true }
-    ensures { IfOk result (λ text. text ≡ path.now) }
-{
-    match str::from_utf8(path) {
-        Ok(text) => Ok(PathText::new(String::from_str(alloc, text)?)),
+    match str::from_utf8(line) {
+        Ok(text) => Some(text),
         Err(_) => unreachable!(),
     }
 }
 
-/// The command that a line is, if it is one.
-fn command_of(alloc: Global, line: &[u8]) -> Result<Option<Command>, NoMemory>
-    ensures { IfOk result (λ command. command ≡ plain_command_of line.now) }
+/// What stands between the spaces of a line.
+fn words_of(alloc: Global, line: &str) -> Result<Vec<&str>, AllocError>
+    ensures { IfOk result (λ found. map (λ word. word.now) found.items ≡ plain_words line.now) }
 {
-    if let Some(path) = path_behind(line, b"s mkdir ") {
-        let path = path_text(alloc, path)?;
-        return Ok(Some(Command::Mkdir { path }));
-    }
-    if let Some(path) = path_behind(line, b"s ls ") {
-        let path = path_text(alloc, path)?;
-        return Ok(Some(Command::Ls { path }));
-    }
-    Ok(None)
+    line.split(' ').collect(alloc)
 }
 
-/// The path behind these words, if the line is the words and a path of the form.
-fn path_behind<'l>(line: &'l [u8], words: &[u8]) -> Option<&'l [u8]>
-    ensures found { IfSome result (λ path. (path.now ≡ drop (length words.now) line.now) × (is_plain_path path.now ≡ true)) }
-    ensures exactly { is_some result ≡ is_command_line words.now line.now }
+fn is_full(word: &str) -> bool
+    ensures { result ≡ is_full word.now }
 {
-    if !line.starts_with(words) {
+    !word.is_empty()
+}
+
+fn all_full(words: &[&str]) -> bool
+    ensures { result ≡ list_all is_full (map (λ word. word.now) words.now) }
+{
+    words.iter().all(|word| is_full(word))
+}
+
+fn is_octal_digit(byte: u8) -> bool
+    ensures { result ≡ is_octal_digit byte }
+{
+    matches!(byte, b'0'..=b'7')
+}
+
+fn has_octal_digits(word: &[u8]) -> bool
+    ensures { result ≡ list_all is_octal_digit word.now }
+{
+    word.iter().all(|byte| is_octal_digit(*byte))
+}
+
+/// The mode that 1 to 4 octal digits write.
+fn mode_of(word: &str) -> Option<Mode>
+    ensures { result ≡ plain_mode_of word.now }
+{
+    if word.len() > 4 || !has_octal_digits(word.as_bytes()) {
         return None;
     }
-    let path = &line[words.len()..];
-    if is_plain_path(path) {
-        Some(path)
+    match u16::from_str_radix(word, 8) {
+        Ok(bits) => Mode::new(bits),
+        Err(_) => None,
+    }
+}
+
+fn path_text(alloc: Global, word: &str) -> Result<PathText, NoMemory>
+    ensures { IfOk result (λ path. path ≡ word.now) }
+{
+    Ok(PathText::new(String::from_str(alloc, word)?))
+}
+
+/// The call of a command with one path.
+fn path_call(command: &str, path: PathText) -> Option<Call>
+    ensures { result ≡ plain_path_call command.now path }
+{
+    match command {
+        "mkdir" => Some(Call::Mkdir { path }),
+        "create" => Some(Call::Create { path, over: false }),
+        "createover" => Some(Call::Create { path, over: true }),
+        "rm" => Some(Call::Delete {
+            path,
+            recursive: false,
+        }),
+        "rmr" => Some(Call::Delete {
+            path,
+            recursive: true,
+        }),
+        "stat" => Some(Call::Stat { path }),
+        "ls" => Some(Call::List {
+            path,
+            size: PageSize::greatest(),
+        }),
+        _ => None,
+    }
+}
+
+/// The call of a command with a path and one more word.
+fn pair_call(
+    alloc: Global,
+    command: &str,
+    path: PathText,
+    word: &str,
+) -> Result<Option<Call>, NoMemory>
+    ensures { IfOk result (λ call. call ≡ plain_pair_call command.now path word.now) }
+{
+    match command {
+        "mv" => Ok(Some(Call::Rename {
+            old: path,
+            new: path_text(alloc, word)?,
+        })),
+        "chmod" => match mode_of(word) {
+            Some(mode) => Ok(Some(Call::SetMode { path, mode })),
+            None => Ok(None),
+        },
+        _ => Ok(None),
+    }
+}
+
+/// The call of the words behind the side.
+fn call_of_command(alloc: Global, words: &[&str]) -> Result<Option<Call>, NoMemory>
+    ensures { IfOk result (λ call. call ≡ plain_call_of_command (map (λ word. word.now) words.now)) }
+{
+    match words {
+        [command, path] => Ok(path_call(command, path_text(alloc, path)?)),
+        [command, path, word] => pair_call(alloc, command, path_text(alloc, path)?, word),
+        _ => Ok(None),
+    }
+}
+
+/// The call of a line's words.
+fn call_of_words(alloc: Global, words: &[&str]) -> Result<Option<Call>, NoMemory>
+    ensures { IfOk result (λ call. call ≡ plain_call_of_words (map (λ word. word.now) words.now)) }
+{
+    match words {
+        [] => Ok(None),
+        [side, words @ ..] => {
+            if *side == "s" {
+                call_of_command(alloc, words)
+            } else {
+                Ok(None)
+            }
+        }
+    }
+}
+
+/// The call of a line, if it has one.
+fn call_of(alloc: Global, line: &[u8]) -> Result<Option<Call>, NoMemory>
+    ensures { IfOk result (λ call. call ≡ plain_call_of line.now) }
+{
+    let Some(text) = text_of(line) else {
+        return Ok(None);
+    };
+    let words = words_of(alloc, text)?;
+    if all_full(words.as_slice()) {
+        call_of_words(alloc, words.as_slice())
     } else {
-        None
+        Ok(None)
     }
 }
 
@@ -130,40 +218,41 @@ fn first_line(bytes: &[u8]) -> Option<(&[u8], &[u8])>
     }
 }
 
-/// How many commands a script has at most.
-const MOST_COMMANDS: usize = 1000;
+/// How many lines a script has at most.
+const MOST_LINES: usize = 1000;
 
 /// Reads an input as a script.
-pub fn read(alloc: Global, bytes: &[u8]) -> Result<List<Command>, ScriptFault>
-    ensures script { IfOk result (λ commands. script_of bytes.now ≡ Some commands) }
+pub fn read(alloc: Global, bytes: &[u8]) -> Result<List<Call>, ScriptFault>
+    ensures script { IfOk result (λ calls. script_of bytes.now ≡ Some calls) }
+    ensures pages { IfOk result (λ calls. list_all has_greatest_page calls ≡ true) }
     ensures bad { IfErr result (IsScriptFault (script_of bytes.now)) }
 {
-    let mut commands = Vec::new(alloc);
+    let mut calls = Vec::new(alloc);
     let mut rest = bytes;
     while !rest.is_empty() {
-        let line = commands.len() as u32 + 1;
-        if commands.len() >= MOST_COMMANDS {
+        let line = calls.len() as u32 + 1;
+        if calls.len() >= MOST_LINES {
             return Err(ScriptFault::Bad { line });
         }
-        let (command, more) = next_command(alloc, rest, line)?;
-        commands.push(command)?;
+        let (call, more) = next_call(alloc, rest, line)?;
+        calls.push(call)?;
         rest = more;
     }
-    Ok(List::of(commands))
+    Ok(List::of(calls))
 }
 
-/// The command of the first line, and what stands behind it.
-fn next_command(alloc: Global, rest: &[u8], line: u32) -> Result<(Command, &[u8]), ScriptFault>
+/// The call of the first line, and what stands behind it.
+fn next_call(alloc: Global, rest: &[u8], line: u32) -> Result<(Call, &[u8]), ScriptFault>
     requires { rest.now ≢ [] }
-    ensures next { IfOk result (λ parts. script_parts rest.now ≡ with_command (Some parts.0) (script_parts parts.1.now)) }
+    ensures next { IfOk result (λ parts. script_parts rest.now ≡ with_call (Some parts.0) (script_parts parts.1.now)) }
     ensures shorter { IfOk result (λ parts. length parts.1.now < length rest.now) }
     ensures bad { IfErr result (IsScriptFault (script_parts rest.now)) }
 {
     let Some((text, more)) = first_line(rest) else {
         return Err(ScriptFault::Bad { line });
     };
-    match command_of(alloc, text)? {
-        Some(command) => Ok((command, more)),
+    match call_of(alloc, text)? {
+        Some(call) => Ok((call, more)),
         None => Err(ScriptFault::Bad { line }),
     }
 }

@@ -1,20 +1,22 @@
-//! The top call: from bytes to bytes, one command after the other.
+//! The top call: from bytes to bytes, one call after the other.
 ghost use Rattle.std.specs.Prelude.{◌≡◌, ◌≤◌, ◌↔◌, true, false, List, ℕ, Option, Some, length, IfOk, IfErr, OnOk, OnErr};
+ghost use Rattle.std.specs.List.{list_all};
 ghost use Rattle.hs_io.specs.Bytes.{Takes};
 ghost use Rattle.hs_io.specs.Faults.{Rose};
 ghost use Rattle.hsnap.specs.Script.{script_of};
 ghost use Rattle.hsnap.specs.Run.{IsRun};
 ghost use Rattle.hsnap.specs.Text.{text_of as plain_text_of};
 ghost use Rattle.hsnap.specs.ReadStatus.{IsReadCause};
-ghost use Rattle.hsnap.specs.declared.script.Command.{Command};
+ghost use Rattle.hs_types.specs.declared.call.Call.{Call};
+ghost use Rattle.hsnap.specs.Pages.{has_greatest_page};
 ghost use Rattle.hsnap.specs.Serial.{is_serial as is_plain_serial, most_bytes, IsScriptRead, IsDone, IsNoScript, IsTooLarge, not_run, no_end as plain_no_end, is_script_fault, is_early, is_ok_or_no_memory};
 
 use crate::ran::{End, FaultKind, Ran, Status};
 use crate::runner;
-use crate::script::{self, Command, ScriptFault};
+use crate::script::{self, ScriptFault};
 use crate::text::text_of;
 use hs_io::{InputErr, Sink, SinkErr, Source, read_all, write_all};
-use hs_types::{Counts, List, NameText, NoMemory};
+use hs_types::{Call, Counts, List, NameText, NoMemory};
 use std::alloc::Global;
 
 /// The most bytes that an input has.
@@ -60,8 +62,9 @@ fn no_end(alloc: Global) -> End
 }
 
 /// Reads the whole input, and the script that it means.
-fn read_script<I: Source>(alloc: Global, input: &mut I) -> Result<List<Command>, Status>
+fn read_script<I: Source>(alloc: Global, input: &mut I) -> Result<List<Call>, Status>
     ensures script { IfOk result (IsScriptRead (I.rest input.old) (I.rest input.new)) }
+    ensures pages { IfOk result (λ calls. list_all has_greatest_page calls ≡ true) }
     ensures cause { IfErr result (IsReadCause (I.rest input.old) (I.rest input.new) (I.faults input.old) (I.faults input.new)) }
     ensures count { I.faults input.old ≤ I.faults input.new }
 {
@@ -72,7 +75,7 @@ fn read_script<I: Source>(alloc: Global, input: &mut I) -> Result<List<Command>,
         Err(InputErr::NoMemory) => return Err(Status::NoMemory),
     };
     match script::read(alloc, bytes.items()) {
-        Ok(commands) => Ok(commands),
+        Ok(calls) => Ok(calls),
         Err(ScriptFault::Bad { line }) => Err(Status::Script {
             line,
             kind: FaultKind::Command,
@@ -99,14 +102,15 @@ fn write_text<O: Sink>(alloc: Global, ran: &Ran, output: &mut O) -> Status
 }
 
 /// Runs a script, and writes the text of the run.
-fn run_and_write<O: Sink>(alloc: Global, commands: &List<Command>, output: &mut O) -> Ran
-    requires { length commands.now ≤ 1000 }
-    ensures ok { result.status ≡ Status.Ok → IsRun commands.now result × Takes (O.written output.old) (O.written output.new) (plain_text_of result) }
+fn run_and_write<O: Sink>(alloc: Global, calls: &List<Call>, output: &mut O) -> Ran
+    requires few { length calls.now ≤ 1000 }
+    requires pages { list_all has_greatest_page calls.now ≡ true }
+    ensures ok { result.status ≡ Status.Ok → IsRun calls.now result × Takes (O.written output.old) (O.written output.new) (plain_text_of result) }
     ensures cause { result.status ≡ Status.WriteFault → Rose (O.faults output.old) (O.faults output.new) }
     ensures late { is_early result.status ≡ false }
     ensures count { O.faults output.old ≤ O.faults output.new }
 {
-    match runner::run(alloc, commands) {
+    match runner::run(alloc, calls) {
         Ok(mut ran) => {
             ran.status = write_text(alloc, &ran, output);
             ran
@@ -115,7 +119,7 @@ fn run_and_write<O: Sink>(alloc: Global, commands: &List<Command>, output: &mut 
     }
 }
 
-/// Reads a script from `input`, runs it on two new namenodes, one command after the other, and writes the text
+/// Reads a script from `input`, runs it on two new namenodes, one call after the other, and writes the text
 /// of the run to `output`. `words` are the words of the command line, without the program's own name.
 pub fn serial<I: Source, O: Sink>(
     alloc: Global,
@@ -135,15 +139,15 @@ pub fn serial<I: Source, O: Sink>(
     ensures write_fault { result.status ≡ Status.WriteFault → Rose (O.faults output.old) (O.faults output.new) }
 
     // A fault of writing comes only behind a script.
-    ensures written_scripts { result.status ≡ Status.WriteFault → (commands : List Command) × IsScriptRead (I.rest input.old) (I.rest input.new) commands }
+    ensures written_scripts { result.status ≡ Status.WriteFault → (calls : List Call) × IsScriptRead (I.rest input.old) (I.rest input.new) calls }
 
     // With the early statuses nothing was written, and nothing was run.
     ensures unwritten { is_early result.status ≡ true → output.new ≡ output.old }
     ensures unrun { is_early result.status ≡ true → result ≡ not_run result.status }
 
     // Where the words are right, and the input is a script within its limit, and neither end fails, all is done.
-    ensures complete { (rest : List ℕ) (commands : List Command) → is_plain_serial words.now ≡ true →
-        I.rest input.old ≡ Some rest → length rest ≤ most_bytes → script_of rest ≡ Some commands →
+    ensures complete { (rest : List ℕ) (calls : List Call) → is_plain_serial words.now ≡ true →
+        I.rest input.old ≡ Some rest → length rest ≤ most_bytes → script_of rest ≡ Some calls →
         (Rose (I.faults input.old) (I.faults input.new) → ⊥) → (Rose (O.faults output.old) (O.faults output.new) → ⊥) →
         is_ok_or_no_memory result.status ≡ true }
 
@@ -154,7 +158,7 @@ pub fn serial<I: Source, O: Sink>(
         return unrun(alloc, Status::Usage);
     }
     match read_script(alloc, input) {
-        Ok(commands) => run_and_write(alloc, &commands, output),
+        Ok(calls) => run_and_write(alloc, &calls, output),
         Err(status) => unrun(alloc, status),
     }
 }

@@ -66,6 +66,66 @@ fn other_words_are_usage(rt: HostRuntime) -> Result<(), Fail> {
     Ok(())
 }
 
+/// Reads, refusals and changes that leave a journal of one entry.
+const REFUSED: &[u8] =
+    b"s mkdir /a\ns mkdir /a/.snapshot\ns create /a/.snapshot/s0/f\ns mkdir a\ns mkdir /a//b\ns mkdir /x/y\ns mkdir /a\ns mkdir /\ns rm /\n";
+
+const REFUSED_TEXT: &str =
+    "setup\n1 s@0 made 2\n2 s@1 refused 4 Reserved\n3 s@1 refused 5 ReadOnly\n4 s@1 refused 1 BadPath\n5 s@1 refused 1 BadPath\n6 s@1 refused 6 NotFound\n7 s@1 refused 9 Exists\n8 s@1 refused 9 Exists\n9 s@1 refused 11 IsRoot\nfinish\njournal s 1\n0 0.1 mkdir /a\njournal t 0\ntree s 2\n0 dir 1 0755 1 /\n1 dir 2 0755 1 a\ntree t 1\n0 dir 1 0755 0 /\n";
+
+/// A file is made, made anew, given a mode and moved; then the directory where it was goes.
+const CHANGED: &[u8] =
+    b"s mkdir /d\ns create /d/f\ns createover /d/f\ns chmod /d/f 7\ns mkdir /e\ns mv /d/f /e/g\ns stat /e/g\ns stat /d\ns rmr /d\n";
+
+const CHANGED_TEXT: &str =
+    "setup\n1 s@0 made 2\n2 s@1 made 3\n3 s@2 made 4\n4 s@3 done\n5 s@4 made 5\n6 s@5 done\n7 s@6 file 4 0007 4 0\n8 s@6 dir 2 0755 6 0\n9 s@6 done\nfinish\njournal s 7\n0 0.1 mkdir /d\n1 0.2 create /d/f\n2 0.3 createover /d/f\n3 0.4 chmod /d/f 0007\n4 0.5 mkdir /e\n5 0.6 mv /d/f /e/g\n6 0.9 rmr /d\njournal t 0\ntree s 3\n0 dir 1 0755 7 /\n1 dir 5 0755 6 e\n2 file 4 0007 4 0 g\ntree t 1\n0 dir 1 0755 0 /\n";
+
+#[test]
+fn calls_are_answered_and_change_the_tree(rt: HostRuntime) -> Result<(), Fail> {
+    for (input, text) in [(REFUSED, REFUSED_TEXT), (CHANGED, CHANGED_TEXT)] {
+        let (ran, written) = called(rt.alloc(), &["serial"], input, &[], &[])?;
+        assert_eq!(rt; ran.status, Status::Ok);
+        assert_eq!(rt; written.as_slice(), text.as_bytes());
+    }
+    Ok(())
+}
+
+/// A line that makes a directory, at a path of so many components of so many letters, with this behind it.
+fn long_line(
+    alloc: Global,
+    components: usize,
+    letters: usize,
+    more: &[u8],
+) -> Result<Vec<u8>, AllocError> {
+    let name = vec![in alloc; b'a'; letters]?;
+    let mut line = Vec::from_slice(alloc, b"s mkdir ")?;
+    for _ in 0..components {
+        line.extend_from_slice(b"/")?;
+        line.extend_from_slice(name.as_slice())?;
+    }
+    line.extend_from_slice(more)?;
+    Ok(line)
+}
+
+#[test]
+fn paths_have_limits(rt: HostRuntime) -> Result<(), Fail> {
+    let not_found = b"setup\n1 s@0 refused 6 NotFound\n".as_slice();
+    let too_long = b"setup\n1 s@0 refused 2 TooLong\n".as_slice();
+    for (components, letters, more, start) in [
+        (1000, 1, b"\n".as_slice(), not_found),
+        (1001, 1, b"\n", b"setup\n1 s@0 refused 3 TooDeep\n"),
+        (1, 255, b"\n", b"setup\n1 s@0 made 2\n"),
+        (1, 256, b"\n", too_long),
+        (32, 249, b"\n", not_found),
+        (32, 249, b"a\n", too_long),
+    ] {
+        let input = long_line(rt.alloc(), components, letters, more)?;
+        let (_, written) = called(rt.alloc(), &["serial"], input.as_slice(), &[], &[])?;
+        assert!(rt; written.starts_with(start), "{components} {letters}");
+    }
+    Ok(())
+}
+
 #[test]
 fn inputs_out_of_form_are_script_faults(rt: HostRuntime) -> Result<(), Fail> {
     for (input, line) in [
@@ -74,14 +134,25 @@ fn inputs_out_of_form_are_script_faults(rt: HostRuntime) -> Result<(), Fail> {
         (b"s  mkdir /a\n", 1),
         (b"s mkdir  /a\n", 1),
         (b"s mkdir /a \n", 1),
-        (b"s mkdir /A\n", 1),
-        (b"s mkdir /a/b\n", 1),
-        (b"s mkdir a\n", 1),
+        (b" s mkdir /a\n", 1),
+        (b"s\tmkdir /a\n", 1),
         (b"s mkdir\n", 1),
+        (b"s mkdir \n", 1),
+        (b"s mkdir /a /b\n", 1),
+        (b"s mv /a\n", 1),
+        (b"s mv /a /b /c\n", 1),
+        (b"s chmod /a 9\n", 1),
+        (b"s chmod /a 2000\n", 1),
+        (b"s chmod /a 01777\n", 1),
+        (b"s chmod /a +7\n", 1),
+        (b"s mkdir /a%20b\n", 1),
+        (b"s mkdir /a#\n", 1),
+        (b"S mkdir /a\n", 1),
+        (b"t mkdir /a\n", 1),
+        (b"s touch /a\n", 1),
         (b"\n", 1),
         (b"s ls /\n\n", 2),
         (b"s ls /\r\n", 1),
-        (b"t mkdir /a\n", 1),
         (b"s ls /\xff\n", 1),
     ] {
         let (ran, written) = called(rt.alloc(), &["serial"], input, &[], &[])?;

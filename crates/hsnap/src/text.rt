@@ -3,7 +3,7 @@ ghost use Rattle.std.specs.Prelude.{◌≡◌, ◌++◌, ℕ, List, IfOk, OnOk, 
 ghost use Rattle.std.specs.List.{flat_map};
 ghost use Rattle.percent_encoding.specs.Iter.{encoded_text};
 ghost use Rattle.hsnap.specs.TextParts.{ended, indented, escaped, mode_text};
-ghost use Rattle.hsnap.specs.CallText.{call_text};
+ghost use Rattle.hsnap.specs.CallText.{create_word, delete_word, call_text};
 ghost use Rattle.hsnap.specs.Text.{side_word, kind_word, more_or_end, reply_text, item_text, further_lines, reply_line, answered_lines, item_lines, heading, log_lines, marked, entry_line, journal_lines, node_name, dir_line, file_line, node_line, tree_lines, text_of};
 
 use crate::ran::{ClientLog, LogItem, LogWhat, Ran, Section};
@@ -108,6 +108,18 @@ fn write_reply(out: &mut String, reply: &Reply) -> Result<(), NoMemory>
 {
     match reply {
         Reply::Made { id } => writeln!(out, "made {}", id.0)?,
+        Reply::Done => out.push_str("done\n")?,
+        Reply::Stat {
+            id,
+            is_dir,
+            mode,
+            stamp,
+            size,
+        } => {
+            write!(out, "{} {} ", kind_word(*is_dir), id.0)?;
+            write_mode(out, *mode)?;
+            writeln!(out, " {stamp} {size}")?
+        }
         Reply::Page { items, next } => {
             writeln!(out, "page {} {}", items.len(), more_or_end(next))?
         }
@@ -122,7 +134,11 @@ fn write_further_lines(out: &mut String, reply: &Reply) -> Result<(), NoMemory>
 {
     match reply {
         Reply::Page { items, .. } => write_page_items(out, items.items()),
-        Reply::Made { .. } | Reply::Refused(_) | Reply::NoMemory => Ok(()),
+        Reply::Made { .. }
+        | Reply::Done
+        | Reply::Stat { .. }
+        | Reply::Refused(_)
+        | Reply::NoMemory => Ok(()),
     }
 }
 
@@ -168,6 +184,21 @@ fn write_call(out: &mut String, call: &Call) -> Result<(), NoMemory>
 {
     match call {
         Call::Mkdir { path } => writeln!(out, "mkdir {}", escaped(path.text()))?,
+        Call::Create { path, over } => {
+            writeln!(out, "{} {}", create_word(*over), escaped(path.text()))?
+        }
+        Call::Delete { path, recursive } => {
+            writeln!(out, "{} {}", delete_word(*recursive), escaped(path.text()))?
+        }
+        Call::Rename { old, new } => {
+            writeln!(out, "mv {} {}", escaped(old.text()), escaped(new.text()))?
+        }
+        Call::SetMode { path, mode } => {
+            write!(out, "chmod {} ", escaped(path.text()))?;
+            write_mode(out, *mode)?;
+            out.push_str("\n")?
+        }
+        Call::Stat { .. } => out.push_str("stat\n")?,
         Call::List { .. } => out.push_str("list\n")?,
     }
     Ok(())
@@ -232,6 +263,18 @@ fn kind_word(is_dir: bool) -> &'static str
     ensures { result.now ≡ kind_word is_dir }
 {
     if is_dir { "dir" } else { "file" }
+}
+
+fn create_word(over: bool) -> &'static str
+    ensures { result.now ≡ create_word over }
+{
+    if over { "createover" } else { "create" }
+}
+
+fn delete_word(recursive: bool) -> &'static str
+    ensures { result.now ≡ delete_word recursive }
+{
+    if recursive { "rmr" } else { "rm" }
 }
 
 fn more_or_end(next: &Option<ListCursor>) -> &'static str

@@ -1,5 +1,5 @@
 -- A namenode stays consistent as its journal grows.
-use Rattle.std.proofs.Common.{◌≡◌, ℕ, suc, ◌+◌, ◌-◌, Some, None, Ok, Err, slice_get, ◌≤◌, Bool, true, false, cond, ◌&&◌, List, [], ◌∷◌, ◌++◌, map, take, length, replicate, refl, ap, sym, subst, ◌∙◌, length-append, arith}
+use Rattle.std.proofs.Common.{◌≡◌, ℕ, ◌+◌, ◌-◌, Some, None, Ok, Err, slice_get, ◌≤◌, Bool, true, false, ◌&&◌, List, [], ◌∷◌, ◌++◌, map, take, length, replicate, refl, ap, sym, subst, ◌∙◌, length-append, arith}
 use Rattle.std.proofs.lemmas.List.{length-replicate, length-map, take_all}
 use Rattle.std.proofs.Math.Seq.{take-append_seam}
 use Rattle.std.specs.List.{list_all}
@@ -18,7 +18,7 @@ use Rattle.hs_plain.specs.declared.state.FileBlocks.{FileBlocks}
 use Rattle.hs_plain.specs.Asked.{Asked}
 use Rattle.hs_plain.specs.Files.{Files, plain_files, block_files}
 use Rattle.hs_plain.specs.Answer.{answer, answer_by, asked, told, replied, mkdir_at, create_at, delete_at, rename_at, set_mode_at, made_reply, is_modifying, is_ok_reply}
-use Rattle.hs_plain.specs.Change.{change, changed_if, ticked, after, if_asked, made_dir, made_file, removed, renamed, with_mode}
+use Rattle.hs_plain.specs.Change.{change, changed_if, ticked, after, made_dir, made_file, removed, renamed, with_mode}
 use Rattle.hs_plain.specs.Replay.{replay_from, proper_from, may_follow, plain_after, is_proper}
 use Rattle.hs_plain.specs.State.{start}
 use Rattle.hs_plain.specs.Valid.{IsSorted}

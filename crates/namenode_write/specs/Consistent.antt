@@ -1,5 +1,5 @@
 -- What a namenode keeps true of the state that it holds.
-use Rattle.std.specs.Prelude.{◌≡◌, ℕ, ◌+◌, ◌≤◌, true, List, length}
+use Rattle.std.specs.Prelude.{◌≡◌, ◌+◌, ◌≤◌, true, List, length}
 use Rattle.hs_types.specs.declared.call.Entry.{Entry}
 use Rattle.hs_plain.specs.declared.state.State.{State}
 use Rattle.hs_plain.specs.declared.state.FileBlocks.{FileBlocks}

@@ -53,6 +53,7 @@ fn change_with_room(
     requires exclusive { is_exclusive call.now ≡ true }
     requires ticks { state.old.tick + 1 < 2 ^ 64 }
     requires inodes { state.old.next_inode + 1 < 2 ^ 64 }
+    requires sorted { IsSorted state.old }
     ensures reply { IfOk result (λ reply. asked block_files state.old call.now ≡ Ok reply) }
     ensures changed { OnOk result (state.new ≡ ticked (change block_files state.old call.now)) }
     ensures room { OnOk result (vec_len journal.new < vec_capacity journal.new) }
@@ -177,14 +178,7 @@ impl Namenode {
         ensures appended { self.new.entries ≡ self.old.entries ++ option_to_list (entry_left caller (record { seq = seq; call = call; told = result })) }
     {
         let mut journal = self.journal.take();
-        let answered = do_in(
-            self.alloc,
-            &mut self.state,
-            &mut journal,
-            caller,
-            seq,
-            call,
-        );
+        let answered = do_in(self.alloc, &mut self.state, &mut journal, caller, seq, call);
         self.journal = List::of(journal);
         answered
     }

@@ -16,15 +16,19 @@ fn name_of(alloc: Global, text: &str) -> Result<Name, Fail> {
     Ok(Name::read(alloc, &text)?)
 }
 
+fn path_of(alloc: Global, text: &str) -> Result<PathText, Fail> {
+    Ok(PathText::new(String::from_str(alloc, text)?))
+}
+
 fn mkdir(alloc: Global, path: &str) -> Result<Call, Fail> {
     Ok(Call::Mkdir {
-        path: PathText::new(String::from_str(alloc, path)?),
+        path: path_of(alloc, path)?,
     })
 }
 
 fn list_root(alloc: Global) -> Result<Call, Fail> {
     Ok(Call::List {
-        path: PathText::new(String::from_str(alloc, "/")?),
+        path: path_of(alloc, "/")?,
         size: PageSize::new(1000).ok_or("a page size")?,
     })
 }
@@ -198,14 +202,18 @@ fn other_logs(alloc: Global) -> Result<List<ClientLog>, Fail> {
 }
 
 fn other_journal(alloc: Global) -> Result<List<Entry>, Fail> {
-    let made = entry(2, mkdir(alloc, "/r/é/a b")?);
+    let path = path_of(alloc, "/r/é/a b")?;
+    let made = entry(2, Call::Create { path, over: true });
+    let old = path_of(alloc, "/a%")?;
+    let new = path_of(alloc, "/#")?;
+    let moved = entry(3, Call::Rename { old, new });
     let faulted = Entry {
         caller: CallerId(3),
         seq: 10,
         kind: EntryKind::Faulted,
         call: list_root(alloc)?,
     };
-    Ok(List::of(vec![in alloc; made, faulted]?))
+    Ok(List::of(vec![in alloc; made, moved, faulted]?))
 }
 
 fn file_node(alloc: Global) -> Result<TreeLine, Fail> {
@@ -243,9 +251,10 @@ fn names_are_escaped_and_pages_go_on(rt: HostRuntime) -> Result<(), Fail> {
         finish\n\
         6 t@9 no memory\n\
         journal s 0\n\
-        journal t 2\n\
-        0 0.2 mkdir /r/%C3%A9/a%20b\n\
-        1 3.10 fault list\n\
+        journal t 3\n\
+        0 0.2 createover /r/%C3%A9/a%20b\n\
+        1 0.3 mv /a%25 /%23\n\
+        2 3.10 fault list\n\
         tree s 1\n\
         2 file 5 0007 6 70 x%7F\n\
         tree t 1\n\

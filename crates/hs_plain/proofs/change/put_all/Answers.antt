@@ -1,6 +1,9 @@
-use Rattle.std.proofs.Common.{rules, ◌≡◌, length, sym, ap, ◌∙◌, arith}
+use Rattle.std.proofs.Common.{length, ap, ◌∙◌, arith}
+use Rattle.std.specs.FinMap.Entries.{is_sorted}
+use Rattle.hs_plain.specs.Tree.{path_cmp}
 use Rattle.hs_plain.specs.Change.{put_all}
 use Rattle.hs_plain.proofs.Moves.{at_new_paths, put_next}
+use Rattle.hs_plain.proofs.ValidTrees.{sorted-put}
 use Rattle.hs_plain.proofs.change.put_all.Goals as goal
 
 pub loop-path-preserved : goal.loop-path-preserved
@@ -18,4 +21,5 @@ loop-path-preserved g c =
           ∙ c.loop-path.invariant.left;
       same = omega (arith, c.loop-path.invariant.same, ap length steps.0.0, ap length steps.1.0);
       room = omega (arith, c.loop-path.invariant.room, ap length steps.0.0, put.len, put.room);
+      rising = ap (is_sorted path_cmp) put.items ∙ sorted-put c.unwrap_or.result c.in-Some.node c.loop-path.sorted.items c.loop-path.invariant.rising;
     }

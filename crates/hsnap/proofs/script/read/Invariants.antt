@@ -3,11 +3,11 @@ use Rattle.hsnap.specs.Script.{script_parts}
 use Rattle.hsnap.proofs.ScriptLines.{with_front}
 use Rattle.hsnap.proofs.script.read.Given as goal
 
--- the commands so far and those of the rest are all
+-- the calls so far and those of the rest are all
 abbrev pub invariant-loop-rest : goal.invariant-loop-rest
 invariant-loop-rest l = record {
-  all : with_front l.commands.items (script_parts l.rest) ≡ script_parts l.bytes;
-  few : length l.commands.items ≤ 1000;
+  all : with_front l.calls.items (script_parts l.rest) ≡ script_parts l.bytes;
+  few : length l.calls.items ≤ 1000;
 }
 
 abbrev pub decreases-loop-rest : goal.decreases-loop-rest

@@ -1,6 +1,5 @@
-use Rattle.std.proofs.Common.{rules, ◌≡◌, ◌++◌, ◌∷◌, [], List, length, arith}
+use Rattle.std.proofs.Common.{rules, ◌≡◌, ◌++◌, ◌∷◌, [], length, arith}
 use Rattle.std.proofs.lemmas.Grind.{common_steps}
-use Rattle.hs_types.specs.declared.call.Entry.{Entry}
 use Rattle.hs_plain.specs.Legal.{accepted_entry}
 use Rattle.namenode_write.proofs.Grown.{legal_accepted}
 use Rattle.namenode_write.proofs.namenode.accepted.Goals as goal

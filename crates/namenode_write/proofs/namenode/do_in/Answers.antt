@@ -1,7 +1,6 @@
-use Rattle.std.proofs.Common.{◌≡◌, ◌++◌, ◌∷◌, [], true, cond, Some, None, refl, sym, ap, ◌∙◌, List}
+use Rattle.std.proofs.Common.{◌≡◌, ◌++◌, ◌∷◌, [], true, cond, Some, None, sym, ap, ◌∙◌, List}
 use Rattle.std.specs.Option.{option_to_list}
 use Rattle.hs_types.specs.declared.call.Entry.{Entry}
-use Rattle.hs_types.specs.declared.call.Call.{Call}
 use Rattle.hs_plain.specs.Files.{block_files}
 use Rattle.hs_plain.specs.Answer.{answer, asked, told, is_ok_reply}
 use Rattle.hs_plain.specs.Replay.{plain_after}

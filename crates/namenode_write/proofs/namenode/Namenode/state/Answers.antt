@@ -1,4 +1,4 @@
-use Rattle.std.proofs.Common.{◌≡◌, subst, ap}
+use Rattle.std.proofs.Common.{subst}
 use Rattle.hs_plain.specs.Replay.{plain_after}
 use Rattle.hs_plain.specs.Viewed.{StandsFor}
 use Rattle.namenode_write.specs.Journal.{Journal}

@@ -1,0 +1,53 @@
+-- A subtree at a new path: it is a tree again.
+use Rattle.std.proofs.Common.{◌≡◌, ℕ, true, List, [], ◌∷◌, ◌++◌, Some, None, sym, ap, ◌∙◌, append_assoc, append-nil}
+use Rattle.std.specs.Prelude.{◌≢◌}
+use Rattle.std.proofs.lemmas.List.{append_cancel_left}
+use Rattle.hs_types.specs.Names.{Names}
+use Rattle.hs_plain.specs.Tree.{parent_of}
+use Rattle.hs_plain.proofs.ValidShapes.{Shape, Shapes, IsTree, is_dir_shape, some_dir, none_some, there_above, by_under, by_last, parent_of-last, not_more}
+
+-- each path at or below `old` becomes one at or below `new`, in a directory that isn't itself moved
+module _ (f : Shapes) (next : ℕ) (is : IsTree f next) (old new above : Names) (name : List ℕ) (lands : new ≡ above ++ name ∷ []) (parent : is_dir_shape (f above) ≡ true) (free : f new ≡ None)
+    (below_root : old ≢ []) (outside : (rest : Names) → new ≢ old ++ rest)
+    (to : Names → Names) (to_under : (rest : Names) → to (old ++ rest) ≡ new ++ rest) (to_other : (p : Names) → ((rest : Names) → p ≢ old ++ rest) → to p ≡ p) where
+  none_below : (rest : Names) (s : Shape) → f (new ++ rest) ≡ Some s → ⊥
+  none_below rest s h = let t = there_above f next is new rest s h in none_some (sym free ∙ t.1)
+
+  -- no two nodes come to one path
+  pub to_apart : (p q : Names) (a b : Shape) → f p ≡ Some a → f q ≡ Some b → to p ≡ to q → p ≡ q
+  to_apart p q a b h k e = by_under p old
+      (λ r d. by_under q old
+      (λ t c. let tails : r ≡ t = append_cancel_left new r t (sym (to_under r) ∙ ap to (sym d) ∙ e ∙ ap to c ∙ to_under t) in d ∙ ap (λ (x : Names). old ++ x) tails ∙ sym c)
+      (λ ne. absurd (none_below r b (ap f (sym (to_under r) ∙ ap to (sym d) ∙ e ∙ to_other q ne) ∙ k))))
+      (λ ne. by_under q old
+      (λ t c. absurd (none_below t a (ap f (sym (to_under t) ∙ ap to (sym c) ∙ sym e ∙ to_other p ne) ∙ h)))
+      (λ nd. sym (to_other p ne) ∙ e ∙ to_other q nd))
+
+  module _ (g : Shapes) (from : (q : Names) (s : Shape) → g q ≡ Some s → (p : Names) × (f p ≡ Some s) × (to p ≡ q)) (onto : (p : Names) (s : Shape) → f p ≡ Some s → g (to p) ≡ Some s) where
+    dir_onto : (p q : Names) → to p ≡ q → is_dir_shape (f p) ≡ true → is_dir_shape (g q) ≡ true
+    dir_onto p q e h = let t = some_dir (f p) h in ap (λ (x : Names). is_dir_shape (g x)) (sym e) ∙ ap is_dir_shape (onto p t.0 t.1 ∙ sym t.1) ∙ h
+
+    one_up : (p q : Names) (a b : List ℕ) → p ++ a ∷ [] ≡ q ++ b ∷ [] → p ≡ q
+    one_up p q a b e = sym (parent_of-last p a) ∙ ap parent_of e ∙ parent_of-last q b
+
+    to_above : to above ≡ above
+    to_above = to_other above (λ rest e. outside (rest ++ name ∷ []) (lands ∙ ap (λ (x : Names). x ++ name ∷ []) e ∙ append_assoc old rest (name ∷ [])))
+
+    above_from : (q : Names) (last : List ℕ) (s : Shape) (p : Names) → f p ≡ Some s → to p ≡ q ++ last ∷ [] → is_dir_shape (g q) ≡ true
+    above_from q last s p h e = by_under p old
+        (λ rest d. by_last (λ r. p ≡ old ++ r → is_dir_shape (g q) ≡ true) rest
+        (λ c. let landed : new ≡ q ++ last ∷ [] = sym (to_under [] ∙ append-nil new) ∙ ap to (sym c) ∙ e in
+        dir_onto above q (to_above ∙ one_up above q name last (sym lands ∙ landed)) parent)
+        (λ front other c. let up : (new ++ front) ++ other ∷ [] ≡ q ++ last ∷ [] = append_assoc new front (other ∷ []) ∙ sym (to_under (front ++ other ∷ [])) ∙ ap to (sym c) ∙ e in
+        dir_onto (old ++ front) q (to_under front ∙ one_up (new ++ front) q other last up) (is.above (old ++ front) other s (ap f (append_assoc old front (other ∷ []) ∙ sym c) ∙ h)))
+        d)
+        (λ ne. let stays : p ≡ q ++ last ∷ [] = sym (to_other p ne) ∙ e in
+        dir_onto q q (to_other q (λ rest d. ne (rest ++ last ∷ []) (stays ∙ ap (λ (x : Names). x ++ last ∷ []) d ∙ append_assoc old rest (last ∷ [])))) (is.above q last s (ap f (sym stays) ∙ h)))
+
+    pub tree-moved : IsTree g next
+    tree-moved = record {
+      root = ap g (sym (to_other [] (λ rest e. below_root (not_more old rest e)))) ∙ onto [] (1, true) is.root;
+      above = λ q last s h. let w = from _ s h in above_from q last s w.0 w.1 w.2;
+      once = λ a b s t h k same. let v = from a s h in let w = from b t k in sym v.2 ∙ ap to (is.once v.0 w.0 s t v.1 w.1 same) ∙ w.2;
+      below = λ q s h. let w = from q s h in is.below w.0 s w.1;
+    }

@@ -1,5 +1,0 @@
-use Rattle.hsnap.proofs.ScriptLines.{path_utf8}
-use Rattle.hsnap.proofs.script.path_text.Goals as goal
-
-pub unreachable-requires : goal.unreachable-requires
-unreachable-requires c = c.in-Err.ensures.cases.0 (path_utf8 c.args.path.now c.requires)
