@@ -1,5 +1,5 @@
 -- A state with blocks answers as the plain state that it stands for.
-use Rattle.std.proofs.Common.{◌≡◌, ℕ, List, length, replicate, sym, ap, ◌∙◌}
+use Rattle.std.proofs.Common.{◌≡◌, ℕ, List, replicate, sym, ap, ◌∙◌}
 use Rattle.std.proofs.lemmas.List.{length-replicate}
 use Rattle.hs_types.specs.declared.call.Call.{Call}
 use Rattle.hs_plain.specs.declared.state.State.{State}
