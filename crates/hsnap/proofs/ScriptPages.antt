@@ -1,10 +1,9 @@
 -- The listings of a script ask for the greatest page.
-use Rattle.std.proofs.Common.{◌≡◌, ℕ, nat_le, Bool, true, false, cond, bytes_eq, codes, rules, arith, Option, Some, None, List, [], ◌∷◌, length, refl, subst}
+use Rattle.std.proofs.Common.{◌≡◌, ℕ, nat_le, Bool, true, false, cond, bytes_eq, codes, rules, Option, Some, None, List, [], ◌∷◌, length, refl, subst}
 use Rattle.std.specs.List.{list_all, slice_split}
 use Rattle.hs_types.specs.declared.call.Call.{Call}
-use Rattle.hs_types.specs.declared.call.Call.TheVariants as calls
 use Rattle.hsnap.specs.Pages.{has_greatest_page}
-use Rattle.hsnap.specs.Script.{is_line_feed, words, is_worded, mode_of, path_call, chmod_call, pair_call, call_of_command, call_of_words, call_of, with_call, calls_of, script_parts, at_most_1000, script_of}
+use Rattle.hsnap.specs.Script.{is_line_feed, words, is_worded, path_call, chmod_call, pair_call, call_of_command, call_of_words, call_of, with_call, calls_of, script_parts, at_most_1000, script_of}
 use Rattle.hsnap.proofs.Both.{both_yes}
 
 abbrev IsGreatest : Option Call → Type 0

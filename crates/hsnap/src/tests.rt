@@ -66,7 +66,7 @@ fn other_words_are_usage(rt: HostRuntime) -> Result<(), Fail> {
     Ok(())
 }
 
-/// Reads, refusals and changes that leave a journal of one entry.
+/// A directory is made, and every call behind it is refused.
 const REFUSED: &[u8] =
     b"s mkdir /a\ns mkdir /a/.snapshot\ns create /a/.snapshot/s0/f\ns mkdir a\ns mkdir /a//b\ns mkdir /x/y\ns mkdir /a\ns mkdir /\ns rm /\n";
 
