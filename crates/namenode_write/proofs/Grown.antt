@@ -1,6 +1,6 @@
 -- A namenode stays consistent as its journal grows.
-use Rattle.std.proofs.Common.{◌≡◌, ℕ, ◌+◌, ◌-◌, Some, None, Ok, Err, slice_get, ◌≤◌, Bool, true, false, ◌&&◌, List, [], ◌∷◌, ◌++◌, map, take, length, replicate, refl, ap, sym, subst, ◌∙◌, length-append, arith}
-use Rattle.std.proofs.lemmas.List.{length-replicate, length-map, take_all}
+use Rattle.std.proofs.Common.{◌≡◌, ℕ, ◌+◌, ◌-◌, Some, None, Ok, Err, slice_get, ◌≤◌, Bool, true, false, ◌&&◌, List, [], ◌∷◌, ◌++◌, map, take, length, refl, ap, sym, subst, ◌∙◌, length-append, arith}
+use Rattle.std.proofs.lemmas.List.{length-map, take_all}
 use Rattle.std.proofs.Math.Seq.{take-append_seam}
 use Rattle.std.specs.List.{list_all}
 use Rattle.std.specs.FinMap.Entries.{is_sorted}
@@ -34,20 +34,10 @@ use Rattle.hs_plain.specs.declared.state.Body.{Body}
 use Rattle.hs_plain.specs.declared.state.Body.TheVariants.{File, Dir}
 use Rattle.hs_plain.specs.Viewed.{viewed, viewed_tree, viewed_place, viewed_body, viewed_member, KeepsSizes, StandsFor}
 use Rattle.hs_plain.proofs.ValidTrees.{sorted-change, if_asked-keeps}
-use Rattle.hs_plain.proofs.Viewed.{answer-viewed, listing-viewed}
+use Rattle.hs_plain.proofs.Stands.{zeros, zeros_keep}
+use Rattle.hs_plain.proofs.Viewed.{listing-viewed}
 use Rattle.hs_plain.proofs.ViewedChange.{change-viewed}
 use Rattle.namenode_write.specs.Consistent.{IsConsistent}
-
--- zeros of the right number: one way to read a file, which serves where no byte is looked at
-zeros : FileBlocks → List ℕ
-zeros file = replicate file.size 0
-
-zeros_keep : KeepsSizes zeros
-unfolding zeros
-zeros_keep file = length-replicate file.size 0
-
-pub answer_stands : (state : State FileBlocks) (plain : State (List ℕ)) → StandsFor state plain → (call : Call) → answer plain call ≡ answer_by block_files state call
-answer_stands state plain stands call = ap (λ (s : State (List ℕ)). answer s call) (sym (stands zeros zeros_keep)) ∙ answer-viewed zeros block_files plain_files zeros_keep state call
 
 no_bytes : (bytes : List ℕ) → length bytes ≡ 0 → bytes ≡ []
 no_bytes [] none = refl

@@ -5,7 +5,8 @@ use Rattle.hs_plain.specs.Files.{block_files}
 use Rattle.hs_plain.specs.Answer.{answer, asked, told, is_ok_reply}
 use Rattle.hs_plain.specs.Replay.{plain_after}
 use Rattle.hs_plain.specs.Legal.{accepted_entry, leaves_entry, is_plain_reply}
-use Rattle.namenode_write.proofs.Grown.{grown, answer_stands, done_ok, done_leaves, fault_leaves_none, refused_right}
+use Rattle.hs_plain.proofs.Stands.{answer_stands}
+use Rattle.namenode_write.proofs.Grown.{grown, done_ok, done_leaves, fault_leaves_none, refused_right}
 use Rattle.namenode_write.proofs.namenode.do_in.Goals as goal
 
 pub accepted-requires-clause-leaves : goal.accepted-requires-clause-leaves
