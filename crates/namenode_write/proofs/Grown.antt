@@ -34,7 +34,7 @@ use Rattle.hs_plain.specs.declared.state.Body.{Body}
 use Rattle.hs_plain.specs.declared.state.Body.TheVariants.{File, Dir}
 use Rattle.hs_plain.specs.Viewed.{viewed, viewed_tree, viewed_place, viewed_body, viewed_member, KeepsSizes, StandsFor}
 use Rattle.hs_plain.proofs.ValidTrees.{sorted-change, if_asked-keeps}
-use Rattle.hs_plain.proofs.Stands.{zeros, zeros_keep}
+use Rattle.hs_plain.proofs.Stands.{zeros, zeros_keep, answer_stands}
 use Rattle.hs_plain.proofs.Viewed.{listing-viewed}
 use Rattle.hs_plain.proofs.ViewedChange.{change-viewed}
 use Rattle.namenode_write.specs.Consistent.{IsConsistent}
