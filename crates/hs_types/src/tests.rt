@@ -213,39 +213,36 @@ fn text_of(alloc: Global, text: &str) -> Result<PathText, Fail> {
     Ok(PathText::new(String::from_str(alloc, text)?))
 }
 
+fn equals_its_copy(call: Call) -> Result<bool, Fail> {
+    let copy = call.copy()?;
+    Ok(copy == call)
+}
+
 #[test]
-fn copies_of_calls_equal_their_source(rt: HostRuntime) -> Result<(), Fail> {
-    let alloc = rt.alloc();
-    let create = Call::Create {
-        path: text_of(alloc, "/a")?,
-        over: true,
-    };
-    assert_eq!(rt; create.copy()?, create);
-    let delete = Call::Delete {
-        path: text_of(alloc, "/a")?,
-        recursive: true,
-    };
-    assert_eq!(rt; delete.copy()?, delete);
-    let rename = Call::Rename {
-        old: text_of(alloc, "/a")?,
-        new: text_of(alloc, "/b")?,
-    };
-    assert_eq!(rt; rename.copy()?, rename);
+fn copies_of_a_files_calls_equal_their_source(rt: HostRuntime) -> Result<(), Fail> {
+    let path = text_of(rt.alloc(), "/a")?;
+    assert!(rt; equals_its_copy(Call::Create { path, over: true })?);
+    let path = text_of(rt.alloc(), "/a")?;
+    let recursive = true;
+    assert!(rt; equals_its_copy(Call::Delete { path, recursive })?);
     Ok(())
 }
 
 #[test]
-fn copies_of_calls_on_one_node_equal_their_source(rt: HostRuntime) -> Result<(), Fail> {
-    let alloc = rt.alloc();
-    let set_mode = Call::SetMode {
-        path: text_of(alloc, "/a")?,
-        mode: Mode::of_file(),
-    };
-    assert_eq!(rt; set_mode.copy()?, set_mode);
-    let stat = Call::Stat {
-        path: text_of(alloc, "/a")?,
-    };
-    assert_eq!(rt; stat.copy()?, stat);
+fn a_copy_of_a_move_equals_its_source(rt: HostRuntime) -> Result<(), Fail> {
+    let old = text_of(rt.alloc(), "/a")?;
+    let new = text_of(rt.alloc(), "/b")?;
+    assert!(rt; equals_its_copy(Call::Rename { old, new })?);
+    Ok(())
+}
+
+#[test]
+fn copies_of_a_nodes_calls_equal_their_source(rt: HostRuntime) -> Result<(), Fail> {
+    let path = text_of(rt.alloc(), "/a")?;
+    let mode = Mode::of_file();
+    assert!(rt; equals_its_copy(Call::SetMode { path, mode })?);
+    let path = text_of(rt.alloc(), "/a")?;
+    assert!(rt; equals_its_copy(Call::Stat { path })?);
     Ok(())
 }
 
