@@ -86,9 +86,11 @@ fn a_text_that_is_no_path_is_refused_by_each_call(rt: HostRuntime) -> Result<(),
     let state = small(alloc)?;
     let deep = components(alloc, "/a", 1001)?;
     let long = components(alloc, "/abcdefg", 1001)?;
+    let unrooted = components(alloc, "abcdefg/", 1001)?;
     for (text, why) in [
         ("", Refusal::BadPath),
         ("/a/./b", Refusal::BadPath),
+        (unrooted.as_str(), Refusal::BadPath),
         (long.as_str(), Refusal::TooLong),
         (deep.as_str(), Refusal::TooDeep),
     ] {
@@ -164,11 +166,18 @@ fn a_refused_move_has_the_first_rule_that_either_path_breaks(rt: HostRuntime) ->
         (deep.as_str(), long.as_str(), Refusal::TooLong),
         ("/a/.snapshot", deep.as_str(), Refusal::TooDeep),
         ("/a/.snapshot/s", "/a/.snapshot", Refusal::Reserved),
+        ("/a/.snapshot", "/a", Refusal::Reserved),
         ("/x", "/a/.snapshot/s", Refusal::ReadOnly),
         ("/x", "/b", Refusal::NotFound),
+        ("/x", "/a", Refusal::NotFound),
         ("/f/x", "/missing/y", Refusal::NotFound),
+        ("/", "/x/y", Refusal::NotFound),
+        ("/a", "/a/x/y", Refusal::NotFound),
         ("/f/x", "/b", Refusal::NotDir),
+        ("/f/x", "/a", Refusal::NotDir),
         ("/a", "/f/x", Refusal::NotDir),
+        ("/", "/f/x", Refusal::NotDir),
+        ("/f", "/f/x", Refusal::NotDir),
         ("/a", "/f", Refusal::Exists),
         ("/a", "/a", Refusal::Exists),
         ("/a/b", "/a", Refusal::Exists),
