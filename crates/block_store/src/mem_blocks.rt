@@ -71,10 +71,11 @@ impl BlockStore for MemBlocks {
         ensures no_memory { IsErrOf result StoreErr.NoMemory → self.new ≡ record self.old { calls = one_more self.old.calls } }
         ensures count { self.old.faults ≤ self.new.faults }
     {
+        let place = offset as usize;
         if self.schedule.next_fails() {
             return Err(StoreErr::Failed);
         }
-        Ok(self.kept.write_at(block, offset as usize, bytes)?)
+        Ok(self.kept.write_at(block, place, bytes)?)
     }
 
     fn read_at(&mut self, block: BlockId, offset: u32, out: &mut [u8]) -> Result<(), StoreErr>

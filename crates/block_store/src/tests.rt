@@ -54,7 +54,7 @@ fn a_chosen_call_fails(rt: HostRuntime) -> Result<(), Fail> {
                 assert_eq!(rt; byte, u64::from(b'b'));
             }
             Err((done, error)) => {
-                assert_eq!(rt; done + 1, number);
+                assert_eq!(rt; done, number - 1);
                 assert_eq!(rt; error, StoreErr::Failed);
             }
         }

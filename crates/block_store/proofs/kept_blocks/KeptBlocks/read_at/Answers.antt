@@ -1,6 +1,5 @@
-use Rattle.std.proofs.Common.{◌≡◌, ◌≤◌, ◌+◌, sym, Some, length, arith, length-take, length-drop}
+use Rattle.std.proofs.Common.{◌≤◌, ◌+◌, sym, length, arith}
 use Rattle.std.proofs.lemmas.Grind.{common_steps}
-use Rattle.hs_types.specs.Blocks.{find}
 use Rattle.block_store.proofs.KeptLemmas.{reaches_found}
 use Rattle.block_store.proofs.kept_blocks.KeptBlocks.read_at.Goals as goal
 

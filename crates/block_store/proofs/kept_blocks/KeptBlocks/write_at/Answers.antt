@@ -1,4 +1,4 @@
-use Rattle.std.proofs.Common.{◌≡◌, ◌≤◌, ◌+◌, Some, if◌then◌else◌, length, arith, rules, sym}
+use Rattle.std.proofs.Common.{◌≡◌, Some, if◌then◌else◌, arith, rules, sym}
 use Rattle.std.proofs.lemmas.Grind.{common_steps}
 use Rattle.hs_types.specs.Blocks.{find, same_block}
 use Rattle.hs_types.specs.declared.ids.BlockId.{BlockId}
