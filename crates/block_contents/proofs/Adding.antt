@@ -32,12 +32,19 @@ apart_none : IsDistinct same_block []
 unfolding IsDistinct
 apart_none = tt
 
+-- a file without bytes has no blocks
+pub file_none : IsFile 0 []
+file_none = record {
+  least = refl;
+  apart = apart_none;
+}
+
 apart_push : (blocks : List BlockId) (block : BlockId) (greatest : ℕ) → AtMost greatest blocks → greatest < block.0 → IsDistinct same_block blocks → IsDistinct same_block (blocks ++ block ∷ [])
 apart_push [] block greatest all above apart = IsDistinct-cons same_block block [] tt apart_none
 apart_push (first ∷ more) block greatest all above apart =
     IsDistinct-cons same_block first (more ++ block ∷ [])
-      (all_push (λ b. same_block first b ≡ false) more block (IsDistinct-head same_block first more apart) (fresh_apart first block greatest all.0 above))
-      (apart_push more block greatest all.1 above (IsDistinct-tail same_block first more apart))
+    (all_push (λ b. same_block first b ≡ false) more block (IsDistinct-head same_block first more apart) (fresh_apart first block greatest all.0 above))
+    (apart_push more block greatest all.1 above (IsDistinct-tail same_block first more apart))
 
 pub file_push : (blocks : List BlockId) (block : BlockId) (greatest size : ℕ) (bytes : List ℕ) → IsFile size blocks → AtMost greatest blocks → greatest < block.0 → size ≡ length blocks * block_size → 0 < length bytes → length bytes ≤ block_size
     → IsFile (size + length bytes) (blocks ++ block ∷ [])
@@ -54,8 +61,8 @@ pub record NewBlock (block : BlockId) (bytes : List ℕ) (before now : BlockMap)
 kept_other : (block other : BlockId) (before between now : BlockMap) (new newer : Option (List ℕ)) → find before block ≡ None → Sets block new before between → Sets block newer between now → IsSome (find before other) → find now other ≡ find before other
 kept_other block other before between now new newer fresh made written there = elim (cases_Bool (same_block block other)) [
   | inl same ↦
-    let none : find before other ≡ None = subst (λ b. find before b ≡ None) (same_is block other same) fresh in
-    absurd (cc (ap is_some none))
+      let none : find before other ≡ None = subst (λ b. find before b ≡ None) (same_is block other same) fresh in
+      absurd (cc (ap is_some none))
   | inr apart ↦ sets_other block newer between now other written apart ∙ sets_other block new before between other made apart
 ]
 
@@ -63,9 +70,9 @@ pub new_block : (block : BlockId) (bytes : List ℕ) (before between now : Block
 new_block block bytes before between now fresh made written = record {
   kept = λ other there. kept_other block other before between now (Some []) (Some (with_bytes_at 0 bytes (bytes_of between block))) fresh made written there;
   found = sets_here block (Some (with_bytes_at 0 bytes (bytes_of between block))) between now block written (same_self block)
-    ∙ ap (λ (o : Option (List ℕ)). Some (with_bytes_at 0 bytes (unwrap_or o []))) (sets_here block (Some []) before between block made (same_self block))
-    ∙ ap (λ l. Some (bytes ++ l)) (drop_all (0 + length bytes) [] (omega arith))
-    ∙ ap Some (append-nil bytes);
+      ∙ ap (λ (o : Option (List ℕ)). Some (with_bytes_at 0 bytes (unwrap_or o []))) (sets_here block (Some []) before between block made (same_self block))
+      ∙ ap (λ l. Some (bytes ++ l)) (drop_all (0 + length bytes) [] (omega arith))
+      ∙ ap Some (append-nil bytes);
 }
 
 pub appends_behind : (blocks : List BlockId) (block : BlockId) (size : ℕ) (bytes : List ℕ) (before now : BlockMap) → size ≡ length blocks * block_size → length bytes ≤ block_size → HoldsFile before size blocks → NewBlock block bytes before now
@@ -96,7 +103,7 @@ appends_then size fits old new bytes first rest before between now parts long on
     record {
       holds = subst (λ n. HoldsFile now n new) count two.holds;
       contents = ap (λ n. file_bytes now n new) (sym count) ∙ two.contents ∙ ap (λ l. l ++ rest) (ap (λ n. file_bytes between (size + n) old) (sym long) ∙ one.contents)
-        ∙ append_assoc (file_bytes before size old) first rest ∙ ap (λ l. file_bytes before size old ++ l) parts;
+          ∙ append_assoc (file_bytes before size old) first rest ∙ ap (λ l. file_bytes before size old ++ l) parts;
     }
 
 -- the same blocks are enough for a larger size
@@ -111,14 +118,14 @@ pub told_new : (H : BlockMap → Type 0) (block : BlockId) (bytes : List ℕ) (t
     → Changes told now (λ a c. H a × NewBlock block bytes a c)
 told_new H block bytes told between now held fresh made written =
     changes_then (λ a b. (H a × (find a block ≡ None)) × Sets block (Some []) a b) (Writes block 0 bytes) (λ a c. H a × NewBlock block bytes a c) told between now
-      (λ a b c one two. (one.0.0, new_block block bytes a b c one.0.1 one.1 two))
-      (changes_map (λ a. H a × (find a block ≡ None)) (Sets block (Some [])) (λ a b. (H a × (find a block ≡ None)) × Sets block (Some []) a b) told between (λ a b h p. (h, p))
-        (told_both H (λ a. find a block ≡ None) told held fresh) made)
-      written
+    (λ a b c one two. (one.0.0, new_block block bytes a b c one.0.1 one.1 two))
+    (changes_map (λ a. H a × (find a block ≡ None)) (Sets block (Some [])) (λ a b. (H a × (find a block ≡ None)) × Sets block (Some []) a b) told between (λ a b h p. (h, p))
+    (told_both H (λ a. find a block ≡ None) told held fresh) made)
+    written
 
 pub told_behind : (blocks : List BlockId) (block : BlockId) (size : ℕ) (bytes : List ℕ) (told between now : Option BlockMap) → size ≡ length blocks * block_size → length bytes ≤ block_size → IfSome told (λ map. HoldsFile map size blocks)
     → IfSome told (λ map. find map block ≡ None) → Changes told between (Sets block (Some [])) → Changes between now (Writes block 0 bytes) → Changes told now (Appended size blocks (blocks ++ block ∷ []) bytes)
 told_behind blocks block size bytes told between now full short held fresh made written =
     changes_weaken (λ a c. HoldsFile a size blocks × NewBlock block bytes a c) (Appended size blocks (blocks ++ block ∷ []) bytes) told now
-      (λ a c both. appends_behind blocks block size bytes a c full short both.0 both.1)
-      (told_new (λ map. HoldsFile map size blocks) block bytes told between now held fresh made written)
+    (λ a c both. appends_behind blocks block size bytes a c full short both.0 both.1)
+    (told_new (λ map. HoldsFile map size blocks) block bytes told between now held fresh made written)

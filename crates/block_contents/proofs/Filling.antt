@@ -58,14 +58,14 @@ keeps_filled first more size front fill v before now is sets same least most =
     let after = up_to first more front size size before now is.file.apart is.front_is is.low is.low is.high is.held others (subst (λ o. Holds o (size - front)) (sym here) has) in
     let old = up_to first more front size size before before is.file.apart is.front_is is.low is.low is.high is.held (λ block apart. refl) (last_holds first more front size before is.front_is is.low is.high is.held) in
     let stays : take (size - front) (bytes_of now last) ≡ take (size - front) (bytes_of before last) =
-      ap (λ (o : Option (List ℕ)). take (size - front) (unwrap_or o [])) here ∙ subst (λ n. take n v ≡ take n (bytes_of before last)) is.fill_is same in
+    ap (λ (o : Option (List ℕ)). take (size - front) (unwrap_or o [])) here ∙ subst (λ n. take n v ≡ take n (bytes_of before last)) is.fill_is same in
     let place : size - front ≡ size - before_last (length (first ∷ more)) = omega arith in
     record {
       holds = after.holds;
       contents = after.contents ∙ ap (λ l. take front (joined before (first ∷ more)) ++ l) stays ∙ sym old.contents;
       there = λ block last_is. last_there (first ∷ more) size now block after.holds last_is;
       last = λ block last_is. subst (λ b. take (size - before_last (length (first ∷ more))) (bytes_of now b) ≡ take (size - before_last (length (first ∷ more))) (bytes_of before b))
-        (same_is last block (sym (is_last_of first more block) ∙ last_is)) (subst (λ n. take n (bytes_of now last) ≡ take n (bytes_of before last)) place stays);
+          (same_is last block (sym (is_last_of first more block) ∙ last_is)) (subst (λ n. take n (bytes_of now last) ≡ take n (bytes_of before last)) place stays);
       others = λ block apart there. others block (sym (is_last_of first more block) ∙ apart);
     }
 
@@ -101,18 +101,18 @@ appends_filled first more size front fill bytes before now is fits writes =
     let long = length_written fill bytes old_bytes within in
     let has : Holds (Some v) (size + length bytes - front) = (omega (arith, is.fill_is, is.low), omega (arith, is.fill_is, is.low)) in
     let after = up_to first more front size (size + length bytes) before now is.file.apart is.front_is is.low (omega (arith, is.low)) (omega (arith, is.fill_is, is.low)) is.held
-      (λ block apart. sets_other last (Some v) before now block writes apart) (subst (λ o. Holds o (size + length bytes - front)) (sym here) has) in
+    (λ block apart. sets_other last (Some v) before now block writes apart) (subst (λ o. Holds o (size + length bytes - front)) (sym here) has) in
     let old = up_to first more front size size before before is.file.apart is.front_is is.low is.low is.high is.held (λ block apart. refl) held in
     let end : size + length bytes - front ≡ fill + length bytes = omega (arith, is.fill_is, is.low) in
     record {
       holds = after.holds;
       contents = after.contents
-        ∙ ap (λ (o : Option (List ℕ)). take front (joined before (first ∷ more)) ++ take (size + length bytes - front) (unwrap_or o [])) here
-        ∙ ap (λ n. take front (joined before (first ∷ more)) ++ take n v) end
-        ∙ ap (λ l. take front (joined before (first ∷ more)) ++ l) (take_written fill bytes old_bytes within)
-        ∙ ap (λ n. take front (joined before (first ∷ more)) ++ (take n old_bytes ++ bytes)) is.fill_is
-        ∙ sym (append_assoc (take front (joined before (first ∷ more))) (take (size - front) old_bytes) bytes)
-        ∙ ap (λ l. l ++ bytes) (sym old.contents);
+          ∙ ap (λ (o : Option (List ℕ)). take front (joined before (first ∷ more)) ++ take (size + length bytes - front) (unwrap_or o [])) here
+          ∙ ap (λ n. take front (joined before (first ∷ more)) ++ take n v) end
+          ∙ ap (λ l. take front (joined before (first ∷ more)) ++ l) (take_written fill bytes old_bytes within)
+          ∙ ap (λ n. take front (joined before (first ∷ more)) ++ (take n old_bytes ++ bytes)) is.fill_is
+          ∙ sym (append_assoc (take front (joined before (first ∷ more))) (take (size - front) old_bytes) bytes)
+          ∙ ap (λ l. l ++ bytes) (sym old.contents);
     }
 
 -- the place in the last block at which a file ends, where that isn't full
@@ -153,7 +153,7 @@ fill_appends [] block d size bytes before now file some fits at held writes = ab
 fill_appends (first ∷ more) block d size bytes before now file some fits at held writes =
     let is = is_fill first more size (length bytes) before file some fits held in
     appends_filled first more size (length more * block_size) (size % block_size) bytes before now is (omega (arith, is.fill_is, is.low))
-      (subst (λ b. Writes b (size % block_size) bytes before now) (last_is first more block d at) writes)
+    (subst (λ b. Writes b (size % block_size) bytes before now) (last_is first more block d at) writes)
 
 pub fill_keeps : (blocks : List BlockId) (block d : BlockId) (size : ℕ) (bytes : List ℕ) (before now : BlockMap) → IsFile size blocks → 0 < length bytes → size + length bytes ≤ length blocks * block_size
     → block ≡ get_or blocks (length blocks - 1) d → HoldsFile before size blocks → Writes block (size % block_size) bytes before now → KeepsFile size blocks before now
@@ -168,8 +168,8 @@ fill_keeps (first ∷ more) block d size bytes before now file some fits at held
     let within : size % block_size ≤ length old_bytes = omega (arith, is.fill_is) in
     let long = length_written (size % block_size) bytes old_bytes within in
     keeps_filled first more size front (size % block_size) (with_bytes_at (size % block_size) bytes old_bytes) before now is
-      (subst (λ b. Writes b (size % block_size) bytes before now) (last_is first more block d at) writes) (front_written (size % block_size) bytes old_bytes within)
-      (omega (arith, is.fill_is)) (omega (arith, is.fill_is, is.low))
+    (subst (λ b. Writes b (size % block_size) bytes before now) (last_is first more block d at) writes) (front_written (size % block_size) bytes old_bytes within)
+    (omega (arith, is.fill_is)) (omega (arith, is.fill_is, is.low))
 
 pub fill_spoils : (blocks : List BlockId) (block d : BlockId) (size : ℕ) (bytes : List ℕ) (before now : BlockMap) → IsFile size blocks → 0 < length bytes → size + length bytes ≤ length blocks * block_size
     → block ≡ get_or blocks (length blocks - 1) d → HoldsFile before size blocks → Spoils block (size % block_size) (size % block_size + length bytes) before now → KeepsFile size blocks before now
@@ -183,6 +183,6 @@ fill_spoils (first ∷ more) block d size bytes before now file some fits at hel
     let reach = holds_least (find before last) (size - front) there in
     let short = holds_most (find before last) (size - front) there in
     let behind : length (bytes_of now last) - (size % block_size + length bytes) ≡ length (bytes_of before last) - (size % block_size + length bytes) =
-      sym (length-drop (size % block_size + length bytes) (bytes_of now last)) ∙ ap length at_last.back ∙ length-drop (size % block_size + length bytes) (bytes_of before last) in
+    sym (length-drop (size % block_size + length bytes) (bytes_of now last)) ∙ ap length at_last.back ∙ length-drop (size % block_size + length bytes) (bytes_of before last) in
     let no_shorter = at_last.no_shorter in
     keeps_filled first more size front (size % block_size) (bytes_of now last) before now is at_last.others at_last.front (omega (arith, is.fill_is)) (omega (arith, is.fill_is, is.low))

@@ -68,8 +68,8 @@ pub up_to_end : (size offset len : ℕ) (bytes : List ℕ) → take (min (size -
 up_to_end size offset len bytes = elim (cases_lt len (size - offset)) [
   | inl fits ↦ ap (λ n. take n (drop offset (take size bytes))) (omega arith)
   | inr past ↦
-    let long : length (drop offset (take size bytes)) ≤ size - offset = omega (arith, length-drop offset (take size bytes), length-take size bytes) in
-    take_all (min (size - offset) len) (drop offset (take size bytes)) (omega arith) ∙ sym (take_all len (drop offset (take size bytes)) (omega arith))
+      let long : length (drop offset (take size bytes)) ≤ size - offset = omega (arith, length-drop offset (take size bytes), length-take size bytes) in
+      take_all (min (size - offset) len) (drop offset (take size bytes)) (omega arith) ∙ sym (take_all len (drop offset (take size bytes)) (omega arith))
 ]
 
 -- a slice whose two parts were written in turn
@@ -78,7 +78,7 @@ parts_put here k first rest xs old xs_is long within k_is count =
     let all : length xs ≡ length old = omega (arith, ap length xs_is, length-append first (drop here old), length-drop here old) in
     put_mid-paste here k xs rest rest (length rest) refl count refl
     ∙ simp (take-length, drop_all (here + length rest) xs (omega arith), append-nil)
-      (ap (λ l. take here l ++ rest) xs_is ∙ ap (λ l. l ++ rest) (take_at first (drop here old) here long))
+    (ap (λ l. take here l ++ rest) xs_is ∙ ap (λ l. l ++ rest) (take_at first (drop here old) here long))
 
 pub two_pieces : (out first rest bytes : List ℕ) (here left from next len offset size : ℕ) → out ≡ first ++ rest → first ≡ take here (drop from bytes) → rest ≡ take left (drop next bytes)
     → from ≡ offset → next ≡ offset + here → here + left ≡ len → offset + len ≤ size → out ≡ take len (drop offset (take size bytes))

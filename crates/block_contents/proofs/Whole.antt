@@ -92,16 +92,16 @@ up_to first (next ∷ more) front size to before now apart front_is below low hi
     let most = holds_most (find before first) block_size there in
     let long : length (bytes_of before first) ≡ block_size = omega arith in
     let ih = up_to next more (front - block_size) (size - block_size) (to - block_size) before now (IsDistinct-tail same_block first (next ∷ more) apart)
-      step (omega arith) (omega arith) (omega arith) held.1 others (subst (Holds (find now (last_of next more))) left last) in
+    step (omega arith) (omega arith) (omega arith) held.1 others (subst (Holds (find now (last_of next more))) left last) in
     record {
       holds = (subst (Holds (find now first)) (sym also) here, ih.holds);
       contents =
-        ap (λ (found : Option (List ℕ)). take to (unwrap_or found [] ++ joined now (next ∷ more))) same
-        ∙ take_full to (bytes_of before first) (joined now (next ∷ more)) long (omega arith)
-        ∙ ap (λ l. bytes_of before first ++ l) ih.contents
-        ∙ ap (λ n. bytes_of before first ++ (take (front - block_size) (joined before (next ∷ more)) ++ take n (bytes_of now (last_of next more)))) (sym left)
-        ∙ sym (append_assoc (bytes_of before first) (take (front - block_size) (joined before (next ∷ more))) (take (to - front) (bytes_of now (last_of next more))))
-        ∙ ap (λ l. l ++ take (to - front) (bytes_of now (last_of next more))) (sym (take_full front (bytes_of before first) (joined before (next ∷ more)) long (omega arith)));
+          ap (λ (found : Option (List ℕ)). take to (unwrap_or found [] ++ joined now (next ∷ more))) same
+          ∙ take_full to (bytes_of before first) (joined now (next ∷ more)) long (omega arith)
+          ∙ ap (λ l. bytes_of before first ++ l) ih.contents
+          ∙ ap (λ n. bytes_of before first ++ (take (front - block_size) (joined before (next ∷ more)) ++ take n (bytes_of now (last_of next more)))) (sym left)
+          ∙ sym (append_assoc (bytes_of before first) (take (front - block_size) (joined before (next ∷ more))) (take (to - front) (bytes_of now (last_of next more))))
+          ∙ ap (λ l. l ++ take (to - front) (bytes_of now (last_of next more))) (sym (take_full front (bytes_of before first) (joined before (next ∷ more)) long (omega arith)));
     }
 
 -- blocks that stay hold the same file

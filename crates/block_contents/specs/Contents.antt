@@ -29,7 +29,7 @@ pub record KeepsFile (size : ℕ) (blocks : List BlockId) (before now : BlockMap
   pub contents : file_bytes now size blocks ≡ file_bytes before size blocks
   pub there : (block : BlockId) → is_last blocks block ≡ true → IsSome (find now block)
   pub last : (block : BlockId) → is_last blocks block ≡ true
-    → take (size - before_last (length blocks)) (bytes_of now block) ≡ take (size - before_last (length blocks)) (bytes_of before block)
+      → take (size - before_last (length blocks)) (bytes_of now block) ≡ take (size - before_last (length blocks)) (bytes_of before block)
   pub others : (block : BlockId) → is_last blocks block ≡ false → IsSome (find before block) → find now block ≡ find before block
 
 -- each block that was there is as before

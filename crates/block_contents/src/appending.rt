@@ -6,11 +6,9 @@ ghost use Rattle.block_store.specs.Changes.{Changes};
 ghost use Rattle.block_store.specs.Faults.{Rose};
 ghost use Rattle.block_contents.specs.Contents.{Appended, KeepsFile, KeepsAll, Adds, AtMost};
 
+use crate::BLOCK_SIZE;
 use block_store::{BlockStore, StoreErr};
 use hs_types::{BlockId, Chunk, List};
-
-/// How many bytes a block has.
-const BLOCK_SIZE: u64 = 65536;
 
 /// Appends bytes to a file, and gives its new size. The last block is filled first, and a new block takes what
 /// is left, so at most two blocks are written. A block that was made and couldn't be written goes to `spare`,

@@ -6,3 +6,9 @@ pub mod reading;
 
 pub use appending::append;
 pub use reading::read;
+
+/// How many bytes a block has.
+const BLOCK_SIZE: u64 = 65536;
+
+#[cfg(test)]
+mod tests;

@@ -3,12 +3,10 @@ ghost use Rattle.std.specs.Prelude.{◌≡◌, ◌+◌, ◌-◌, ◌*◌, ◌<�
 ghost use Rattle.hs_types.specs.Blocks.{IsFile, HoldsFile, block_size, file_bytes, joined};
 ghost use Rattle.block_store.specs.Faults.{Rose};
 
+use crate::BLOCK_SIZE;
 use block_store::{BlockStore, StoreErr};
 use hs_types::{BlockId, Chunk, List, ReadLen};
 use std::alloc::Global;
-
-/// How many bytes a block has.
-const BLOCK_SIZE: u64 = 65536;
 
 /// Reads a file's bytes from a place on, up to its end or to so many. At or behind the end there are none, and
 /// the store isn't called.
@@ -33,7 +31,10 @@ pub fn read<B: BlockStore>(
     let wanted = size.saturating_sub(offset).min(u64::from(len.bytes())) as usize;
     let mut bytes = Vec::from_elem(alloc, 0, wanted).map_err(|_| StoreErr::NoMemory)?;
     read_into(store, blocks.items(), size, offset, bytes.as_mut_slice())?;
-    Chunk::new(bytes).map_err(|_| StoreErr::NoMemory)
+    match Chunk::new(bytes) {
+        Ok(chunk) => Ok(chunk),
+        Err(_) => unreachable!(),
+    }
 }
 
 /// Fills `out` with a file's bytes from a place on. An empty one asks for no call.
@@ -60,7 +61,7 @@ fn read_into<B: BlockStore>(
     }
     let at = (offset / BLOCK_SIZE) as usize;
     let within = (offset % BLOCK_SIZE) as usize;
-    let here = (Chunk::GREATEST - within).min(out.len());
+    let here = (BLOCK_SIZE as usize - within).min(out.len());
     read_block(store, blocks, size, at, within as u32, &mut out[..here])?;
     if here == out.len() {
         return Ok(());

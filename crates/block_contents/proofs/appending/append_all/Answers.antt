@@ -20,6 +20,6 @@ pub returns-clause-kept : goal.returns-clause-kept
 returns-clause-kept g c =
     let list : c.as_slice.result.now ≡ c.args.blocks.now.items = c.as_slice.ensures.value ∙ c.reserve.ensures.items in
     changes_then (KeepsFile c.args.size c.args.blocks.now.items) KeepsAll (KeepsFile c.args.size c.args.blocks.now.items) _ _ _
-      (λ before between now one two. keeps_then c.args.size c.args.blocks.now.items before between now one two)
-      (subst (λ blocks. Changes (g.B.BlockStore.blocks c.args.store.now) (g.B.BlockStore.blocks c.fill_last.new.store) (KeepsFile c.args.size blocks)) list c.fill_last.ensures.kept)
-      c.add_block.ensures.kept
+    (λ before between now one two. keeps_then c.args.size c.args.blocks.now.items before between now one two)
+    (subst (λ blocks. Changes (g.B.BlockStore.blocks c.args.store.now) (g.B.BlockStore.blocks c.fill_last.new.store) (KeepsFile c.args.size blocks)) list c.fill_last.ensures.kept)
+    c.add_block.ensures.kept

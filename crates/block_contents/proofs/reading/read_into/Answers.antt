@@ -22,10 +22,10 @@ returns-clause-bytes g c =
     let n : ℕ = length (take here out) in
     let m : ℕ = length (take (length put - here) (drop here put)) in
     on_ok c.read_block-2.result (λ second. told_with
-      (λ map. c.read_block.new.out ≡ take n (drop from (joined map c.args.blocks.now)))
-      (λ map. c.read_block-2.new.out ≡ take m (drop next (joined map c.args.blocks.now)))
-      _ (g.B.BlockStore.blocks c.args.store.now)
-      (λ map one two. two_pieces _ c.read_block.new.out c.read_block-2.new.out (joined map c.args.blocks.now) n m from next (length out) c.args.offset c.args.size
-        (parts_put here (length put - here) c.read_block.new.out c.read_block-2.new.out put out refl first_long fits (omega arith) (omega arith)) one two
-        (omega arith) (omega (arith, whole less, length-take here out)) (omega (arith, length-take here out, length-take (length put - here) (drop here put), length-drop here put)) (c.requires.within some))
-      c.in_ok-read_block.ensures.bytes (subst (λ told. IfSome told (λ map. c.read_block-2.new.out ≡ take m (drop next (joined map c.args.blocks.now)))) c.in_ok-read_block.ensures.kept second)) c.read_block-2.ensures.bytes
+    (λ map. c.read_block.new.out ≡ take n (drop from (joined map c.args.blocks.now)))
+    (λ map. c.read_block-2.new.out ≡ take m (drop next (joined map c.args.blocks.now)))
+    _ (g.B.BlockStore.blocks c.args.store.now)
+    (λ map one two. two_pieces _ c.read_block.new.out c.read_block-2.new.out (joined map c.args.blocks.now) n m from next (length out) c.args.offset c.args.size
+    (parts_put here (length put - here) c.read_block.new.out c.read_block-2.new.out put out refl first_long fits (omega arith) (omega arith)) one two
+    (omega arith) (omega (arith, whole less, length-take here out)) (omega (arith, length-take here out, length-take (length put - here) (drop here put), length-drop here put)) (c.requires.within some))
+    c.in_ok-read_block.ensures.bytes (subst (λ told. IfSome told (λ map. c.read_block-2.new.out ≡ take m (drop next (joined map c.args.blocks.now)))) c.in_ok-read_block.ensures.kept second)) c.read_block-2.ensures.bytes
