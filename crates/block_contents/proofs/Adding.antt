@@ -1,12 +1,12 @@
 -- A file gets a new block, and an append in two steps.
-use Rattle.std.proofs.Common.{◌≡◌, ℕ, ◌+◌, ◌-◌, ◌*◌, ◌/◌, ◌<◌, ◌≤◌, min, Bool, true, false, List, [], ◌∷◌, ◌++◌, length, take, drop, Option, None, Some, IsSome, IfSome, inl, inr, refl, ap, sym, subst, ◌∙◌, append-nil, append_assoc, arith, length-append}
+use Rattle.std.proofs.Common.{◌≡◌, ℕ, ◌+◌, ◌-◌, ◌*◌, ◌<◌, ◌≤◌, false, List, [], ◌∷◌, ◌++◌, length, take, Option, None, Some, IsSome, IfSome, inl, inr, refl, ap, sym, subst, ◌∙◌, append-nil, append_assoc, arith, length-append}
 use Rattle.std.specs.Option.{unwrap_or, is_some}
 use Rattle.std.specs.List.{AllByRecursion, IsDistinct}
 use Rattle.std.proofs.lemmas.Bool.{cases_Bool}
 use Rattle.std.proofs.lemmas.Bool.Decides.{nat_tests}
-use Rattle.std.proofs.lemmas.List.{length_push, drop_all, length-take-le, length-drop, take-append-drop}
+use Rattle.std.proofs.lemmas.List.{length_push, drop_all}
 use Rattle.std.proofs.lemmas.Map.Keys.{IsDistinct-head, IsDistinct-tail, IsDistinct-cons}
-use Rattle.hs_types.specs.Blocks.{BlockMap, IsFile, find, bytes_of, joined, file_bytes, HoldsFile, same_block, block_size, blocks_for}
+use Rattle.hs_types.specs.Blocks.{BlockMap, IsFile, find, bytes_of, file_bytes, HoldsFile, same_block, block_size, blocks_for}
 use Rattle.hs_types.specs.declared.ids.BlockId.{BlockId}
 use Rattle.block_store.specs.Changes.{Changes, Sets, Writes, with_bytes_at}
 use Rattle.block_contents.specs.Contents.{AtMost, Appended, KeepsFile, KeepsAll}

@@ -1,13 +1,13 @@
 -- The last block of a file is written.
-use Rattle.std.proofs.Common.{◌≡◌, ℕ, ◌+◌, ◌-◌, ◌*◌, ◌/◌, ◌%◌, ◌<◌, ◌≤◌, min, Bool, true, false, if◌then◌else◌, List, [], ◌∷◌, ◌++◌, length, take, drop, get_or, Option, None, Some, IsSome, refl, ap, sym, subst, ◌∙◌, append_assoc, arith, length-append, length-drop}
+use Rattle.std.proofs.Common.{◌≡◌, ℕ, ◌+◌, ◌-◌, ◌*◌, ◌%◌, ◌<◌, ◌≤◌, min, true, false, if◌then◌else◌, List, [], ◌∷◌, ◌++◌, length, take, drop, get_or, Option, None, Some, IsSome, refl, ap, sym, subst, ◌∙◌, append_assoc, arith, length-append, length-drop}
 use Rattle.std.specs.Option.{unwrap_or}
 use Rattle.std.proofs.Math.Seq.{take-append-add, take-append_seam}
 use Rattle.std.proofs.lemmas.List.{length-take-le}
-use Rattle.hs_types.specs.Blocks.{BlockMap, IsFile, find, bytes_of, joined, file_bytes, Holds, HoldsFile, same_block, block_size, blocks_for}
+use Rattle.hs_types.specs.Blocks.{BlockMap, IsFile, find, bytes_of, joined, Holds, HoldsFile, same_block, block_size}
 use Rattle.hs_types.specs.declared.ids.BlockId.{BlockId}
 use Rattle.block_store.specs.Changes.{Reaches, Sets, Writes, Spoils, with_bytes_at}
 use Rattle.block_contents.specs.Contents.{is_last, before_last, Appended, KeepsFile}
-use Rattle.block_contents.proofs.Whole.{last_of, is_last_of, last_at, same_self, same_is, holds_least, holds_most, holds_some, UpTo, up_to}
+use Rattle.block_contents.proofs.Whole.{last_of, is_last_of, last_at, same_self, same_is, holds_least, holds_most, holds_some, up_to}
 
 pub sets_here : (block : BlockId) (bytes : Option (List ℕ)) (before now : BlockMap) (other : BlockId) → Sets block bytes before now → same_block block other ≡ true → find now other ≡ bytes
 sets_here block bytes before now other sets same = sets other ∙ ap (λ b. if b then bytes else find before other) same

@@ -1,12 +1,11 @@
 -- A file's bytes, read from one block or from two.
-use Rattle.std.proofs.Common.{◌≡◌, ℕ, ◌+◌, ◌-◌, ◌*◌, ◌/◌, ◌%◌, ◌<◌, ◌≤◌, zero, suc, min, List, [], ◌∷◌, ◌++◌, length, take, drop, get_or, Option, None, Some, IfSome, inl, inr, refl, ap, sym, subst, ◌∙◌, append-nil, arith, length-append, length-take, length-drop}
-use Rattle.std.specs.Option.{unwrap_or}
+use Rattle.std.proofs.Common.{◌≡◌, ℕ, ◌+◌, ◌-◌, ◌*◌, ◌<◌, ◌≤◌, zero, suc, min, List, [], ◌∷◌, ◌++◌, length, take, drop, get_or, Option, None, Some, inl, inr, refl, ap, sym, subst, ◌∙◌, append-nil, arith, length-append, length-take, length-drop}
 use borrow.Rule.Slice.PartMut.{put_mid}
 use Rattle.std.proofs.Math.Seq.{drop-append-add, take-add, take-length}
 use Rattle.std.proofs.lemmas.Slice.{put_mid-paste}
 use Rattle.std.proofs.lemmas.Bool.{cases_lt}
 use Rattle.std.proofs.lemmas.List.{take_all, drop_all, take_at, take-take, take-append-le, drop-append-le, drop-take, drop-drop}
-use Rattle.hs_types.specs.Blocks.{BlockMap, IsFile, find, bytes_of, joined, file_bytes, Holds, HoldsFile, block_size}
+use Rattle.hs_types.specs.Blocks.{BlockMap, find, bytes_of, joined, Holds, HoldsFile, block_size}
 use Rattle.hs_types.specs.declared.ids.BlockId.{BlockId}
 use Rattle.block_store.specs.Changes.{Reaches}
 use Rattle.block_contents.proofs.Whole.{holds_least, holds_most}

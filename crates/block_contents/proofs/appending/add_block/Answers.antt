@@ -1,5 +1,5 @@
-use Rattle.std.proofs.Common.{◌≡◌, ◌≤◌, refl, arith, ◌+◌, ◌*◌, ◌<◌, length, rules, sym, subst}
-use Rattle.hs_types.specs.Blocks.{IsFile, block_size}
+use Rattle.std.proofs.Common.{◌≤◌, arith, ◌+◌, ◌<◌, length, sym, subst}
+use Rattle.hs_types.specs.Blocks.{IsFile}
 use Rattle.block_store.specs.Changes.{Changes}
 use Rattle.block_contents.specs.Contents.{AtMost, Appended}
 use Rattle.block_contents.proofs.Adding.{at_most_more, at_most_push, file_push, told_behind}

@@ -1,4 +1,4 @@
-use Rattle.std.proofs.Common.{refl, arith, ◌+◌, ◌%◌, ◌<◌, length, rules}
+use Rattle.std.proofs.Common.{arith, ◌+◌, ◌%◌, ◌<◌, length}
 use Rattle.hs_types.specs.Blocks.{HoldsFile, block_size}
 use Rattle.block_store.specs.Changes.{Writes, Spoils}
 use Rattle.block_contents.specs.Contents.{Appended, KeepsFile}
