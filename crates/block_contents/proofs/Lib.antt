@@ -1,0 +1,5 @@
+pub mod Adding
+pub mod Filling
+pub mod Parts
+pub mod Told
+pub mod Whole

@@ -1,0 +1,4 @@
+pub mod Changes
+pub mod Errors
+pub mod Faults
+pub mod Memory
