@@ -2,30 +2,66 @@
 ghost use Rattle.std.specs.Prelude.{◌≡◌};
 ghost use Rattle.hs_types.specs.Refusals.{number_of, refusal_name};
 
+use crate::chunk::Chunk;
 use crate::ids::{CallerId, InodeId, SnapId};
 use crate::list::List;
 use crate::memory::{Duplicate, NoMemory};
 use crate::name::Name;
-use crate::numbers::{Mode, PageSize};
+use crate::numbers::{Mode, PageSize, ReadLen};
 use crate::path::PathText;
 
 /// What a client may ask of a namenode.
 #[derive(Debug, Drop, PartialEq, Eq)]
 pub enum Call {
     /// Adds one empty directory to an existing parent.
-    Mkdir { path: PathText },
+    Mkdir {
+        path: PathText,
+    },
     /// Adds one empty file to an existing parent. With `over` an existing file of that name makes way for it.
-    Create { path: PathText, over: bool },
+    Create {
+        path: PathText,
+        over: bool,
+    },
+    /// Adds bytes at the end of a file.
+    Append {
+        path: PathText,
+        bytes: Chunk,
+    },
     /// Removes a file or an empty directory; with `recursive` also a directory and all below it.
-    Delete { path: PathText, recursive: bool },
+    Delete {
+        path: PathText,
+        recursive: bool,
+    },
     /// Moves a node, with all below it, to a new parent and name.
-    Rename { old: PathText, new: PathText },
+    Rename {
+        old: PathText,
+        new: PathText,
+    },
     /// Gives a node this mode.
-    SetMode { path: PathText, mode: Mode },
+    SetMode {
+        path: PathText,
+        mode: Mode,
+    },
+    /// The bytes of a file from a place on, at most so many.
+    Read {
+        path: PathText,
+        offset: u64,
+        len: ReadLen,
+    },
+    /// The bytes behind those that an earlier reply held.
+    ReadNext {
+        cursor: ReadCursor,
+        len: ReadLen,
+    },
     /// What a node is, without what it holds.
-    Stat { path: PathText },
+    Stat {
+        path: PathText,
+    },
     /// The first page of a directory's items, in name order.
-    List { path: PathText, size: PageSize },
+    List {
+        path: PathText,
+        size: PageSize,
+    },
 }
 
 impl Duplicate for Call {
@@ -35,6 +71,10 @@ impl Duplicate for Call {
             Call::Create { path, over } => Ok(Call::Create {
                 path: path.copy()?,
                 over: *over,
+            }),
+            Call::Append { path, bytes } => Ok(Call::Append {
+                path: path.copy()?,
+                bytes: bytes.copy()?,
             }),
             Call::Delete { path, recursive } => Ok(Call::Delete {
                 path: path.copy()?,
@@ -47,6 +87,15 @@ impl Duplicate for Call {
             Call::SetMode { path, mode } => Ok(Call::SetMode {
                 path: path.copy()?,
                 mode: *mode,
+            }),
+            Call::Read { path, offset, len } => Ok(Call::Read {
+                path: path.copy()?,
+                offset: *offset,
+                len: *len,
+            }),
+            Call::ReadNext { cursor, len } => Ok(Call::ReadNext {
+                cursor: *cursor,
+                len: *len,
             }),
             Call::Stat { path } => Ok(Call::Stat { path: path.copy()? }),
             Call::List { path, size } => Ok(Call::List {
@@ -66,6 +115,11 @@ pub enum Reply {
     },
     /// The call was accepted.
     Done,
+    /// Bytes of a file. `next` is `None` exactly where the end is reached.
+    Bytes {
+        bytes: Chunk,
+        next: Option<ReadCursor>,
+    },
     /// What a node is. `size` is the number of bytes of a file, of children of a directory, or of snapshots of a list of
     /// snapshots, which has the other fields of its directory.
     Stat {
@@ -113,6 +167,10 @@ pub enum Refusal {
     NotEmpty,
     /// A node's new place is below itself.
     IntoItself,
+    /// The snapshot of a cursor was deleted.
+    Gone,
+    /// The store of blocks failed.
+    StoreFault,
 }
 
 impl Refusal {
@@ -133,6 +191,8 @@ impl Refusal {
             Refusal::IsRoot => 11,
             Refusal::NotEmpty => 12,
             Refusal::IntoItself => 14,
+            Refusal::Gone => 20,
+            Refusal::StoreFault => 23,
         }
     }
 
@@ -153,6 +213,8 @@ impl Refusal {
             Refusal::IsRoot => "IsRoot",
             Refusal::NotEmpty => "NotEmpty",
             Refusal::IntoItself => "IntoItself",
+            Refusal::Gone => "Gone",
+            Refusal::StoreFault => "StoreFault",
         }
     }
 }
@@ -175,6 +237,15 @@ pub struct ListCursor {
     pub place: Place,
     /// The last name that was answered, or `None` at the front.
     pub after: Option<Name>,
+}
+
+/// Where the next page of a read begins.
+#[derive(Clone, Copy, Debug, PartialEq, Eq)]
+pub struct ReadCursor {
+    /// The file that is read.
+    pub place: Place,
+    /// How many bytes stand before the page.
+    pub offset: u64,
 }
 
 /// One item of a listing.

@@ -12,7 +12,8 @@ pub mod path;
 pub mod text;
 
 pub use call::{
-    Answered, Call, Counts, Entry, EntryKind, Item, ListCursor, Place, Refusal, Reply, TreeLine,
+    Answered, Call, Counts, Entry, EntryKind, Item, ListCursor, Place, ReadCursor, Refusal, Reply,
+    TreeLine,
 };
 pub use chunk::Chunk;
 pub use ids::{BlockId, CallerId, InodeId, Side, SnapId};

@@ -247,6 +247,32 @@ fn copies_of_a_nodes_calls_equal_their_source(rt: HostRuntime) -> Result<(), Fai
 }
 
 #[test]
+fn a_copy_of_an_append_equals_its_source(rt: HostRuntime) -> Result<(), Fail> {
+    let alloc = rt.alloc();
+    let path = text_of(alloc, "/a/f")?;
+    let bytes = Chunk::new(vec![in alloc; 0, 255]?).ok().ok_or("a chunk")?;
+    assert!(rt; equals_its_copy(Call::Append { path, bytes })?);
+    Ok(())
+}
+
+#[test]
+fn copies_of_reads_equal_their_source(rt: HostRuntime) -> Result<(), Fail> {
+    let path = text_of(rt.alloc(), "/a/f")?;
+    let len = ReadLen::new(7).ok_or("a length")?;
+    assert!(rt;
+        equals_its_copy(Call::Read {
+            path,
+            offset: 3,
+            len
+        })?
+    );
+    let place = Place::Frozen(InodeId(2), SnapId(1));
+    let cursor = ReadCursor { place, offset: 10 };
+    assert!(rt; equals_its_copy(Call::ReadNext { cursor, len })?);
+    Ok(())
+}
+
+#[test]
 fn copies_of_places_equal_their_source(rt: HostRuntime) -> Result<(), Fail> {
     let alloc = rt.alloc();
     let spot = Spot {
@@ -304,6 +330,8 @@ fn refusals_have_their_numbers(rt: HostRuntime) {
         (Refusal::IsRoot, 11, "IsRoot"),
         (Refusal::NotEmpty, 12, "NotEmpty"),
         (Refusal::IntoItself, 14, "IntoItself"),
+        (Refusal::Gone, 20, "Gone"),
+        (Refusal::StoreFault, 23, "StoreFault"),
     ];
     for (refusal, number, name) in cases {
         assert_eq!(rt; refusal.number(), number);
