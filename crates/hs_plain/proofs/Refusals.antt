@@ -1,5 +1,5 @@
 -- A call that is refused changes nothing.
-use Rattle.std.proofs.Common.{◌≡◌, ℕ, Bool, true, false, cond, List, Result, Ok, Err, refl, ap, sym, ◌∙◌}
+use Rattle.std.proofs.Common.{◌≡◌, true, Result, Ok, Err, refl, sym, ◌∙◌}
 use Rattle.hs_types.specs.declared.call.Call.{Call}
 use Rattle.hs_types.specs.declared.call.Call.TheVariants as calls
 use Rattle.hs_types.specs.declared.call.Reply.{Reply}
@@ -11,8 +11,8 @@ use Rattle.hs_plain.specs.declared.resolve.AskFault.TheVariants as faults
 use Rattle.hs_plain.specs.Asked.{Asked}
 use Rattle.hs_plain.specs.Faults.{IsFaultOf, is_answered}
 use Rattle.hs_plain.specs.Files.{Files}
-use Rattle.hs_plain.specs.Answer.{asked, replied, mkdir_at, create_at, delete_at, rename_at, set_mode_at}
-use Rattle.hs_plain.specs.Change.{change, changed_if, if_asked, made_dir, made_file, removed, renamed, with_mode}
+use Rattle.hs_plain.specs.Answer.{asked, replied, mkdir_at, create_at, delete_at, rename_at, set_mode_at, append_at}
+use Rattle.hs_plain.specs.Change.{change, if_asked, made_dir, made_file, removed, renamed, with_mode, appended}
 
 module _ {X : Type 0} {B : Type 0} (make : X → State B) (state : State B) (reply : Reply) (why : Refusal) where
   unchanged : (told : Asked X) → replied reply told ≡ Err why → if_asked make state told ≡ state
@@ -25,6 +25,9 @@ refused_same files state (calls.Create path over) why refused = unchanged (made_
 refused_same files state (calls.Delete path recursive) why refused = unchanged (removed state) state _ why (delete_at state path recursive) refused
 refused_same files state (calls.Rename old new) why refused = unchanged (renamed state) state _ why (rename_at state old new) refused
 refused_same files state (calls.SetMode path mode) why refused = unchanged (with_mode state mode) state _ why (set_mode_at state path) refused
+refused_same files state (calls.Append path bytes) why refused = unchanged (appended files state bytes) state _ why (append_at state path) refused
+refused_same files state (calls.Read path offset len) why refused = refl
+refused_same files state (calls.ReadNext cursor len) why refused = refl
 refused_same files state (calls.Stat path) why refused = refl
 refused_same files state (calls.List path size) why refused = refl
 

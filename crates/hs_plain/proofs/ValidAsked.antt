@@ -6,10 +6,12 @@ use Rattle.hs_types.specs.Names.{Names}
 use Rattle.hs_types.specs.declared.call.Refusal.{Refusal}
 use Rattle.hs_types.specs.declared.call.Refusal.TheVariants.{NotDir, NotEmpty}
 use Rattle.hs_plain.specs.declared.state.Node.{Node}
+use Rattle.hs_plain.specs.declared.state.Body.{Body}
+use Rattle.hs_plain.specs.declared.state.Body.TheVariants.{File, Dir}
 use Rattle.hs_plain.specs.declared.state.State.{State}
 use Rattle.hs_plain.specs.Asked.{Asked, ◌>>=◌, refuse_if, both}
 use Rattle.hs_plain.specs.Tree.{Tree, node_at, passes, walks_from, walks_above, walk, found, is_dir, is_root_path, is_above}
-use Rattle.hs_plain.specs.Answer.{live_path, mkdir_at, create_at, delete_at, rename_at, may_move, takes_place_of, spares_children}
+use Rattle.hs_plain.specs.Answer.{live_path, mkdir_at, create_at, delete_at, rename_at, may_move, takes_place_of, spares_children, file_in, append_at}
 use Rattle.hs_plain.specs.Valid.{is_dir_node}
 use Rattle.hs_plain.proofs.ValidShapes.{under_test}
 
@@ -101,6 +103,27 @@ module _ {B : Type 0} where
       let d = ok_then (refuse_if (spares_children state.tree a.0 recursive) NotEmpty) (λ _. okay a.0) path c.2 in
       let same : a.0 ≡ path = same_ok d.2 in
       λ e. not_root a.0 (not_refused _ _ c.0 c.1) (same ∙ e)
+
+  is_file : (body : Body B) (file : B) → file_in body ≡ Ok file → body ≡ File file
+  is_file (File other) file h = ap (λ f. File f) (same_ok h)
+  is_file Dir file h = absurd (err_ok h)
+
+  -- a file that gets bytes: it is there
+  pub record IsFileAt (tree : Tree B) (path : Names) (node : Node B) (file : B) : Type 0 where
+    pub there : node_at tree path ≡ Some node
+    pub body : node.body ≡ File file
+
+  pub append_there : (state : State B) (text : List ℕ) (at : Names × Node B × B) → append_at state text ≡ Ok at → IsFileAt state.tree at.0 at.1 at.2
+  append_there state text at h =
+      let a = ok_then (live_path text) _ at h in
+      let b = ok_then (walk state.tree a.0) _ at a.2 in
+      let c = ok_then (file_in b.0.body) _ at b.2 in
+      let node = ok_then (walks_above state.tree a.0) _ b.0 b.1 in
+      let same : (a.0, b.0, c.0) ≡ at = same_ok c.2 in
+      record {
+        there = ap (λ (x : Names × Node B × B). node_at state.tree x.0) (sym same) ∙ found_some _ b.0 node.2 ∙ ap (λ (x : Names × Node B × B). Some x.1) same;
+        body = ap (λ (x : Names × Node B × B). x.1.body) (sym same) ∙ is_file b.0.body c.0 c.1 ∙ ap (λ (x : Names × Node B × B). File x.2) same;
+      }
 
   -- a move: a node goes to a free place that isn't below it
   pub record MayMove (tree : Tree B) (old new : Names) : Type 0 where

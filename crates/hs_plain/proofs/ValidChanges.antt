@@ -11,7 +11,7 @@ use Rattle.hs_plain.specs.declared.state.Node.{Node}
 use Rattle.hs_plain.specs.Tree.{Tree, path_cmp, node_at, same_path}
 use Rattle.hs_plain.specs.Change.{restamp, stamped, remode, moded, without, repath, at_new}
 use Rattle.hs_plain.proofs.ValidTrees.{paths_total, paths_exact, restamp-kept, remode-kept}
-use Rattle.hs_plain.proofs.ValidShapes.{same-itself, other-test, under_test, under_so}
+use Rattle.hs_plain.proofs.ValidShapes.{same_so, same-itself, other-test, under_test, under_so}
 use Rattle.hs_plain.proofs.ValidNodes.{shape, shapes}
 
 -- a path that isn't at or below another
@@ -55,6 +55,17 @@ module _ {B : Type 0} where
 
   pub put_there : (path : Names) (node : Node B) (tree : Tree B) (q : Names) → q ≢ path → node_at (put path_cmp path node tree) q ≡ node_at tree q
   put_there path node tree q ne = node_at-put path node tree q ∙ ap (λ b. cond b (Some node) (node_at tree q)) (other-test q path ne)
+
+  -- a node put in the place of one with its id and kind
+  pub shapes-put_alike : (path : Names) (was node : Node B) (tree : Tree B) → node_at tree path ≡ Some was → shape node ≡ shape was → shapes (put path_cmp path node tree) ≡ shapes tree
+  shapes-put_alike path was node tree there alike = λ i q. at q i
+    where
+      at : (q : Names) → shapes (put path_cmp path node tree) q ≡ shapes tree q
+      at q = ap (option_map shape) (node_at-put path node tree q)
+          ∙ elim (eq_by_cmp path_cmp q path) as (λ b. eq_by_cmp path_cmp q path ≡ b → option_map shape (cond b (Some node) (node_at tree q)) ≡ option_map shape (node_at tree q)) [
+            | true ↦ λ tie. ap (λ s. Some s) alike ∙ ap (option_map shape) (sym there) ∙ ap (λ (p : Names). option_map shape (node_at tree p)) (sym (same_so tie))
+            | false ↦ λ _. refl
+          ] refl
 
   -- ---- a subtree taken out
 

@@ -19,8 +19,8 @@ use Rattle.hs_plain.specs.Asked.{Asked}
 use Rattle.hs_plain.specs.Files.{Files}
 use Rattle.hs_plain.specs.Tree.{Tree, path_cmp, same_path, parent_of}
 use Rattle.hs_plain.specs.State.{start, new_dir}
-use Rattle.hs_plain.specs.Answer.{mkdir_at, create_at, delete_at, rename_at, set_mode_at}
-use Rattle.hs_plain.specs.Change.{restamp, stamped, remode, moded, without, repath, put_all, moved, new_file, with_node, made_dir, made_file, removed, renamed, with_mode, if_asked, change, takes_effect, changed_if, after}
+use Rattle.hs_plain.specs.Answer.{mkdir_at, create_at, delete_at, rename_at, set_mode_at, append_at}
+use Rattle.hs_plain.specs.Change.{restamp, stamped, remode, moded, without, repath, put_all, moved, new_file, with_node, made_dir, made_file, removed, renamed, with_mode, with_file, refilled, appended, if_asked, change, takes_effect, changed_if, after}
 use Rattle.hs_plain.specs.Replay.{replay_from, replay}
 
 -- ---- the order of paths
@@ -108,6 +108,9 @@ module _ {B : Type 0} where
   pub sorted-renamed : (state : State B) (paths : Names × Names) → is_sorted path_cmp (renamed state paths).tree ≡ true
   sorted-renamed state paths = sorted-stamped _ (parent_of paths.1) (state.tick + 1) (sorted-stamped _ (parent_of paths.0) (state.tick + 1) (sorted-moved state.tree paths.0 paths.1))
 
+  pub sorted-with_file : (state : State B) (path : Names) (node : Node B) (file : B) → is_sorted path_cmp state.tree ≡ true → is_sorted path_cmp (with_file state path node file).tree ≡ true
+  sorted-with_file state path node file h = sorted-put path (refilled node file (state.tick + 1)) state.tree h
+
   pub sorted-change : (files : Files B) (state : State B) (call : Call) → is_sorted path_cmp state.tree ≡ true → is_sorted path_cmp (change files state call).tree ≡ true
   sorted-change files state (calls.Mkdir path) h =
       if_asked-keeps IsOrdered (made_dir state) state (mkdir_at state path) h (λ p _. sorted-with_node state p (new_dir state.next_inode (state.tick + 1)) h)
@@ -116,6 +119,10 @@ module _ {B : Type 0} where
   sorted-change files state (calls.Delete path recursive) h = if_asked-keeps IsOrdered (removed state) state (delete_at state path recursive) h (λ p _. sorted-removed state p h)
   sorted-change files state (calls.Rename old new) h = if_asked-keeps IsOrdered (renamed state) state (rename_at state old new) h (λ p _. sorted-renamed state p)
   sorted-change files state (calls.SetMode path mode) h = if_asked-keeps IsOrdered (with_mode state mode) state (set_mode_at state path) h (λ p _. sorted-moded state.tree p mode (state.tick + 1) h)
+  sorted-change files state (calls.Append path bytes) h =
+      if_asked-keeps IsOrdered (appended files state bytes) state (append_at state path) h (λ at _. sorted-with_file state at.0 at.1 (files.append at.2 bytes) h)
+  sorted-change files state (calls.Read path offset len) h = h
+  sorted-change files state (calls.ReadNext cursor len) h = h
   sorted-change files state (calls.Stat path) h = h
   sorted-change files state (calls.List path size) h = h
 

@@ -11,22 +11,23 @@ use Rattle.hs_types.specs.declared.call.Call.{Call}
 use Rattle.hs_types.specs.declared.call.Call.TheVariants as calls
 use Rattle.hs_types.specs.declared.call.Entry.{Entry}
 use Rattle.hs_plain.specs.declared.state.Node.{Node}
+use Rattle.hs_plain.specs.declared.state.Body.{Body}
 use Rattle.hs_plain.specs.declared.state.Member.{Member}
 use Rattle.hs_plain.specs.declared.state.State.{State}
 use Rattle.hs_plain.specs.Files.{Files}
-use Rattle.hs_plain.specs.Tree.{Tree, path_cmp, node_at, parent_of, is_dir}
+use Rattle.hs_plain.specs.Tree.{Tree, path_cmp, node_at, parent_of, is_dir_body, is_dir}
 use Rattle.hs_plain.specs.State.{start, new_dir}
-use Rattle.hs_plain.specs.Answer.{mkdir_at, create_at, delete_at, rename_at, set_mode_at}
-use Rattle.hs_plain.specs.Change.{stamped, without, moved, still_in, new_file, with_node, made_dir, made_file, removed, renamed, with_mode, change, takes_effect, changed_if, after}
+use Rattle.hs_plain.specs.Answer.{mkdir_at, create_at, delete_at, rename_at, set_mode_at, append_at}
+use Rattle.hs_plain.specs.Change.{stamped, without, moved, still_in, new_file, with_node, made_dir, made_file, removed, renamed, with_mode, with_file, refilled, appended, change, takes_effect, changed_if, after}
 use Rattle.hs_plain.specs.Replay.{replay_from, replay}
 use Rattle.hs_plain.specs.Valid.{has_clash, IsValid, IsLive}
-use Rattle.hs_plain.proofs.ValidTrees.{if_asked-keeps, sorted-with_node, sorted-removed, sorted-renamed, sorted-moded}
+use Rattle.hs_plain.proofs.ValidTrees.{if_asked-keeps, sorted-with_node, sorted-removed, sorted-renamed, sorted-moded, sorted-with_file}
 use Rattle.hs_plain.proofs.ValidShapes.{IsTree, is_dir_shape, true_false, none_some, by_last, tree-made, tree-removed}
 use Rattle.hs_plain.proofs.ValidMoves.{to_apart, tree-moved}
 use Rattle.hs_plain.proofs.ValidNodes.{shape, shapes, dir_shape, tree_so, root-from, parents-from, once-from, below-from, one_kind-from}
-use Rattle.hs_plain.proofs.ValidChanges.{shapes-stamped, shapes-moded, put_here, put_there, without_gone, without_there, moved_path, moved_under, moved_other}
+use Rattle.hs_plain.proofs.ValidChanges.{shapes-stamped, shapes-moded, shapes-put_alike, put_here, put_there, without_gone, without_there, moved_path, moved_under, moved_other}
 use Rattle.hs_plain.proofs.ValidRepaths.{moved_from, moved_onto}
-use Rattle.hs_plain.proofs.ValidAsked.{walked, HasRoom, mkdir_room, create_room, delete_below, MayMove, rename_allowed, lands_outside}
+use Rattle.hs_plain.proofs.ValidAsked.{walked, HasRoom, mkdir_room, create_room, delete_below, MayMove, rename_allowed, lands_outside, IsFileAt, append_there}
 
 module _ {B : Type 0} where
   -- ---- trees
@@ -165,6 +166,15 @@ module _ {B : Type 0} where
     no_snapshots = kept.no_snapshots;
   }
 
+  kept-with_file : (state : State B) (path : Names) (node : Node B) (file new : B) → IsKept state → IsFileAt state.tree path node file → IsKept (with_file state path node new)
+  kept-with_file state path node file new kept is = record {
+    sorted = sorted-with_file state path node new kept.sorted;
+    tree = subst (λ f. IsTree f state.next_inode) (sym (shapes-put_alike path node (refilled node new (state.tick + 1)) state.tree is.there (ap (λ (body : Body B). (node.id.0, is_dir_body body)) (sym is.body)))) kept.tree;
+    next_snapshot_above = kept.next_snapshot_above;
+    none_snapshottable = kept.none_snapshottable;
+    no_snapshots = kept.no_snapshots;
+  }
+
   pub kept-change : (files : Files B) (state : State B) (call : Call) → IsKept state → IsKept (change files state call)
   kept-change files state (calls.Mkdir path) kept = if_asked-keeps IsKept (made_dir state) state (mkdir_at state path) kept
       (λ p h. kept-with_node state p (new_dir state.next_inode (state.tick + 1)) kept (mkdir_room state path p h) refl)
@@ -175,6 +185,10 @@ module _ {B : Type 0} where
   kept-change files state (calls.Rename old new) kept = if_asked-keeps IsKept (renamed state) state (rename_at state old new) kept
       (λ paths h. kept-renamed state paths kept (rename_allowed state old new paths h))
   kept-change files state (calls.SetMode path mode) kept = if_asked-keeps IsKept (with_mode state mode) state (set_mode_at state path) kept (λ p h. kept-with_mode state mode p kept)
+  kept-change files state (calls.Append path bytes) kept = if_asked-keeps IsKept (appended files state bytes) state (append_at state path) kept
+      (λ at h. kept-with_file state at.0 at.1 at.2 (files.append at.2 bytes) kept (append_there state path at h))
+  kept-change files state (calls.Read path offset len) kept = kept
+  kept-change files state (calls.ReadNext cursor len) kept = kept
   kept-change files state (calls.Stat path) kept = kept
   kept-change files state (calls.List path size) kept = kept
 

@@ -1,5 +1,5 @@
--- The plain machine looks at no file but for its size, so a state with files kept in another way answers alike.
-use Rattle.std.proofs.Common.{◌≡◌, ℕ, ◌+◌, ◌&&◌, ◌==◌, bytes_eq, Bool, true, false, cond, Option, Some, None, Ok, Err, is_some, List, [], ◌∷◌, ◌++◌, map, length, refl, ap, ◌∙◌}
+-- The plain machine looks at no file but for its size, and for its bytes in a read, so a state with files kept in another way answers alike.
+use Rattle.std.proofs.Common.{◌≡◌, ℕ, ◌+◌, ◌&&◌, ◌||◌, ◌==◌, bytes_eq, Bool, true, false, cond, Option, Some, None, Ok, Err, is_some, List, [], ◌∷◌, ◌++◌, map, length, refl, ap, ◌∙◌}
 use Rattle.std.specs.Prelude.{not, nat_lt}
 use Rattle.std.specs.Option.{option_map}
 use Rattle.std.specs.List.{cons_option}
@@ -12,12 +12,13 @@ use Rattle.hs_types.specs.declared.ids.SnapId.{SnapId}
 use Rattle.hs_types.specs.declared.path.Path.{Path}
 use Rattle.hs_types.specs.declared.path.PathTail.{PathTail}
 use Rattle.hs_types.specs.declared.path.PathTail.TheVariants.{Plain, SnapshotList, Frozen}
-use Rattle.hs_types.specs.declared.call.Refusal.TheVariants.{NotFound, NotDir, NotFile, Exists, IsRoot, NotEmpty, IntoItself}
+use Rattle.hs_types.specs.declared.call.Refusal.TheVariants.{NotFound, NotDir, NotFile, Exists, IsRoot, NotEmpty, IntoItself, Gone}
 use Rattle.hs_types.specs.declared.call.Reply.{Reply}
 use Rattle.hs_types.specs.declared.call.Reply.TheVariants as replies
 use Rattle.hs_types.specs.declared.call.Place.{Place}
 use Rattle.hs_types.specs.declared.call.Place.TheVariants as places
 use Rattle.hs_types.specs.declared.call.Item.{Item}
+use Rattle.hs_types.specs.declared.call.ReadCursor.{ReadCursor}
 use Rattle.hs_types.specs.declared.call.Call.{Call}
 use Rattle.hs_types.specs.declared.call.Call.TheVariants as calls
 use Rattle.hs_plain.specs.declared.state.Node.{Node}
@@ -27,15 +28,28 @@ use Rattle.hs_plain.specs.declared.state.Member.{Member}
 use Rattle.hs_plain.specs.declared.state.State.{State}
 use Rattle.hs_plain.specs.Asked.{Asked, ◌>>=◌, refuse_if, both}
 use Rattle.hs_plain.specs.Files.{Files}
-use Rattle.hs_plain.specs.Tree.{Tree, path_cmp, node_at, is_dir_body, is_dir, passes, walks_from, walks_above, found, walk, child_item, named_item, name_below, listing, child_count, size_of, is_root_path, is_above}
+use Rattle.hs_plain.specs.Tree.{Tree, path_cmp, node_at, is_dir_body, is_dir, passes, walks_from, walks_above, found, walk, child_item, named_item, name_below, listing, size_of, is_root_path, is_above}
 use Rattle.hs_plain.specs.State.{is_snapshottable, if_snapshottable, snapshot_root, member_named, member_with, resolve, resolve_tail, same_inode, place_of, items_of, items_at, snapshot_items, with_item, snapshots_of}
-use Rattle.hs_plain.specs.Answer.{page_of, live_path, mkdir_at, takes_place_of, create_at, spares_children, delete_at, may_move, rename_at, set_mode_at, list_reply, node_stat, list_stat, stat_at, stat_reply, made_reply, replied, asked, told, answer_by}
+use Rattle.hs_plain.specs.Answer.{page_of, live_path, mkdir_at, takes_place_of, create_at, spares_children, delete_at, may_move, rename_at, set_mode_at, list_reply, node_stat, list_stat, stat_at, stat_reply, file_in, append_at, file_there, file_at, page_at, found_file, read_reply, is_live, is_gone, next_file, next_reply, made_reply, replied, asked, told, answer_by, is_modifying, uses_store}
 use Rattle.hs_plain.specs.Viewed.{viewed_body, viewed_node, viewed_place, viewed_tree, viewed_member, viewed}
 
 -- one test after another answers alike, where its answers do
 pub then-same : {X Y : Type 0} (asked : Asked X) (f g : X → Asked Y) → ((x : X) → f x ≡ g x) → (asked >>= f) ≡ (asked >>= g)
 then-same (Ok x) f g same = same x
 then-same (Err why) f g same = refl
+
+-- what a test gives, in another way
+abbrev pub mapped : {X Y : Type 0} → (X → Y) → Asked X → Asked Y
+mapped f (Ok x) = Ok (f x)
+mapped f (Err why) = Err why
+
+then-mapped : {X Y Z : Type 0} (asked : Asked X) (f : X → Asked Y) (g : X → Asked Z) (h : Y → Z) → ((x : X) → g x ≡ mapped h (f x)) → (asked >>= g) ≡ mapped h (asked >>= f)
+then-mapped (Ok x) f g h same = same x
+then-mapped (Err why) f g h same = refl
+
+pub replied-mapped : {X Y : Type 0} (reply : Reply) (f : X → Y) (asked : Asked X) → replied reply (mapped f asked) ≡ replied reply asked
+replied-mapped reply f (Ok x) = refl
+replied-mapped reply f (Err why) = refl
 
 -- the place in a snapshot's copied tree
 abbrev frozen_at : {B : Type 0} → Names → Member B → Asked Place
@@ -54,6 +68,12 @@ creates tree over path = do
   above ← walks_above tree path
   free ← takes_place_of over (node_at tree path)
   Ok path
+
+abbrev appends : {B : Type 0} → Tree B → Names → Asked (Names × Node B × B)
+appends tree path = do
+  node ← walk tree path
+  file ← file_in node.body
+  Ok (path, node, file)
 
 abbrev deletes : {B : Type 0} → Tree B → Bool → Names → Asked Names
 deletes tree recursive path = do
@@ -261,6 +281,27 @@ module _ {A B : Type 0} (read : A → B) where
   pub create_at-viewed : (state : State A) (text : List ℕ) (over : Bool) → create_at (viewed read state) text over ≡ create_at state text over
   create_at-viewed state text over = then-same (live_path text) (creates (viewed_tree read state.tree) over) (creates state.tree over) (creates-viewed state.tree over)
 
+  file_in-viewed : (body : Body A) → file_in (viewed_body read body) ≡ mapped read (file_in body)
+  file_in-viewed (File file) = refl
+  file_in-viewed Dir = refl
+
+  -- a file that gets bytes, read
+  abbrev pub viewed_file : Names × Node A × A → Names × Node B × B
+  viewed_file at = (at.0, viewed_node read at.1, read at.2)
+
+  filled-viewed : (path : Names) (node : Node A) (file : Asked A) → (mapped read file >>= λ f. Ok (path, viewed_node read node, f)) ≡ mapped viewed_file (file >>= λ f. Ok (path, node, f))
+  filled-viewed path node (Ok file) = refl
+  filled-viewed path node (Err why) = refl
+
+  appends_to-viewed : (path : Names) (node : Asked (Node A)) → (viewed_found node >>= λ n. (file_in n.body >>= λ f. Ok (path, n, f))) ≡ mapped viewed_file (node >>= λ n. (file_in n.body >>= λ f. Ok (path, n, f)))
+  appends_to-viewed path (Ok node) = ap (λ (file : Asked B). file >>= λ f. Ok (path, viewed_node read node, f)) (file_in-viewed node.body) ∙ filled-viewed path node (file_in node.body)
+  appends_to-viewed path (Err why) = refl
+
+  pub append_at-viewed : (state : State A) (text : List ℕ) → append_at (viewed read state) text ≡ mapped viewed_file (append_at state text)
+  append_at-viewed state text =
+      then-mapped (live_path text) (appends state.tree) (appends (viewed_tree read state.tree)) viewed_file
+      (λ path. ap (λ (w : Asked (Node B)). w >>= λ n. (file_in n.body >>= λ f. Ok (path, n, f))) (walk-viewed state.tree path) ∙ appends_to-viewed path (walk state.tree path))
+
   deletes-viewed : (tree : Tree A) (recursive : Bool) (path : Names) → deletes (viewed_tree read tree) recursive path ≡ deletes tree recursive path
   deletes-viewed tree recursive path =
       seen_walk-viewed tree path (refuse_if (is_root_path path) IsRoot >>= λ _. (refuse_if (spares_children (viewed_tree read tree) path recursive) NotEmpty >>= λ _. Ok path))
@@ -307,6 +348,85 @@ module _ {A B : Type 0} (read : A → B) where
       ∙ ap (list_stat (snapshots_of state.members dir)) (place_of-viewed state.tree dir)
       ∙ list_stat-viewed (snapshots_of state.members dir) (place_of state.tree dir)
 
+  -- ---- reads of a file
+
+  file_there-viewed : (place : Option (Names × Node A)) → file_there (option_map (viewed_place read) place) ≡ mapped read (file_there place)
+  file_there-viewed None = refl
+  file_there-viewed (Some place) = file_in-viewed place.1.body
+
+  file_of-viewed : (tree : Tree A) (id : InodeId) → file_there (place_of (viewed_tree read tree) id) ≡ mapped read (file_there (place_of tree id))
+  file_of-viewed tree id = ap file_there (place_of-viewed tree id) ∙ file_there-viewed (place_of tree id)
+
+  frozen_file-viewed : (id : InodeId) (member : Asked (Member A)) → (viewed_named member >>= λ m. file_there (place_of m.tree id)) ≡ mapped read (member >>= λ m. file_there (place_of m.tree id))
+  frozen_file-viewed id (Err why) = refl
+  frozen_file-viewed id (Ok m) = file_of-viewed m.tree id
+
+  file_at-viewed : (state : State A) (place : Place) → file_at (viewed read state) place ≡ mapped read (file_at state place)
+  file_at-viewed state (places.Live id) = file_of-viewed state.tree id
+  file_at-viewed state (places.Frozen id snapshot) =
+      ap (λ (member : Asked (Member B)). member >>= λ m. file_there (place_of m.tree id)) (member_with-viewed state.members snapshot) ∙ frozen_file-viewed id (member_with state.members snapshot)
+  file_at-viewed state (places.SnapshotsOf dir) =
+      elim (is_snapshottable state dir) as (λ b. cond {A = Asked B} b (Err NotFile) (Err NotFound) ≡ mapped read (cond {A = Asked A} b (Err NotFile) (Err NotFound))) [ true ↦ refl | false ↦ refl ]
+
+  -- a file with its place, read
+  abbrev pub viewed_at : Place × A → Place × B
+  viewed_at at = (at.0, read at.1)
+
+  placed-viewed : (place : Place) (file : Asked A) → (mapped read file >>= λ f. Ok (place, f)) ≡ mapped viewed_at (file >>= λ f. Ok (place, f))
+  placed-viewed place (Ok file) = refl
+  placed-viewed place (Err why) = refl
+
+  at_place_file-viewed : (state : State A) (place : Place) → (file_at (viewed read state) place >>= λ f. Ok (place, f)) ≡ mapped viewed_at (file_at state place >>= λ f. Ok (place, f))
+  at_place_file-viewed state place = ap (λ (file : Asked B). file >>= λ f. Ok (place, f)) (file_at-viewed state place) ∙ placed-viewed place (file_at state place)
+
+  pub found_file-viewed : (state : State A) (text : List ℕ) → found_file (viewed read state) text ≡ mapped viewed_at (found_file state text)
+  found_file-viewed state text =
+      then-mapped (path_of text) (λ path. resolve state path >>= λ place. (file_at state place >>= λ f. Ok (place, f))) (λ path. resolve (viewed read state) path >>= λ place. (file_at (viewed read state) place >>= λ f. Ok (place, f))) viewed_at
+      (λ path. ap (λ (at : Asked Place). at >>= λ place. (file_at (viewed read state) place >>= λ f. Ok (place, f))) (resolve-viewed state path)
+      ∙ then-mapped (resolve state path) (λ place. file_at state place >>= λ f. Ok (place, f)) (λ place. file_at (viewed read state) place >>= λ f. Ok (place, f)) viewed_at (at_place_file-viewed state))
+
+  is_live-viewed : (members : List (Member A)) (snapshot : SnapId) → is_live (map (viewed_member read) members) snapshot ≡ is_live members snapshot
+  is_live-viewed [] snapshot = refl
+  is_live-viewed (m ∷ ms) snapshot = ap (λ b. (m.snapshot.0 == snapshot.0) || b) (is_live-viewed ms snapshot)
+
+  is_gone-viewed : (state : State A) (place : Place) → is_gone (viewed read state) place ≡ is_gone state place
+  is_gone-viewed state (places.Live id) = refl
+  is_gone-viewed state (places.Frozen id snapshot) = ap (λ b. not (snapshot.0 == 0) && not b) (is_live-viewed state.members snapshot)
+  is_gone-viewed state (places.SnapshotsOf dir) = refl
+
+  pub next_file-viewed : (state : State A) (place : Place) → next_file (viewed read state) place ≡ mapped viewed_at (next_file state place)
+  next_file-viewed state place =
+      ap (λ b. refuse_if b Gone >>= λ _. (file_at (viewed read state) place >>= λ f. Ok (place, f))) (is_gone-viewed state place)
+      ∙ then-mapped (refuse_if (is_gone state place) Gone) (λ _. file_at state place >>= λ f. Ok (place, f)) (λ _. file_at (viewed read state) place >>= λ f. Ok (place, f)) viewed_at (λ _. at_place_file-viewed state place)
+
+-- ---- reads
+
+-- a page of a file that is read in another way, seen in that way
+module _ {A B : Type 0} (read : A → B) (fa : Files A) (fb : Files B) (seen : Reply → Reply) (pages : (offset len : ℕ) (place : Place) (file : A) → page_at fb offset len (place, read file) ≡ seen (page_at fa offset len (place, file))) where
+  paged-viewed : (offset len : ℕ) (at : Asked (Place × A)) → (mapped (viewed_at read) at >>= λ a. Ok (page_at fb offset len a)) ≡ mapped seen (at >>= λ a. Ok (page_at fa offset len a))
+  paged-viewed offset len (Ok at) = ap (λ reply. Ok reply) (pages offset len at.0 at.1)
+  paged-viewed offset len (Err why) = refl
+
+  read_reply-viewed : (state : State A) (text : List ℕ) (offset len : ℕ) → read_reply fb (viewed read state) text offset len ≡ mapped seen (read_reply fa state text offset len)
+  read_reply-viewed state text offset len =
+      ap (λ (at : Asked (Place × B)). at >>= λ a. Ok (page_at fb offset len a)) (found_file-viewed read state text) ∙ paged-viewed offset len (found_file state text)
+
+  next_reply-viewed : (state : State A) (cursor : ReadCursor) (len : ℕ) → next_reply fb (viewed read state) cursor len ≡ mapped seen (next_reply fa state cursor len)
+  next_reply-viewed state cursor len =
+      ap (λ (at : Asked (Place × B)). at >>= λ a. Ok (page_at fb cursor.offset len a)) (next_file-viewed read state cursor.place) ∙ paged-viewed cursor.offset len (next_file state cursor.place)
+
+  pub read-viewed : (state : State A) (call : Call) → is_modifying call ≡ false → uses_store call ≡ true → asked fb (viewed read state) call ≡ mapped seen (asked fa state call)
+  read-viewed state (calls.Mkdir path) reads uses = absurd (cc)
+  read-viewed state (calls.Create path over) reads uses = absurd (cc)
+  read-viewed state (calls.Append path bytes) reads uses = absurd (cc)
+  read-viewed state (calls.Delete path recursive) reads uses = absurd (cc)
+  read-viewed state (calls.Rename old new) reads uses = absurd (cc)
+  read-viewed state (calls.SetMode path mode) reads uses = absurd (cc)
+  read-viewed state (calls.Read path offset len) reads uses = read_reply-viewed state path offset len
+  read-viewed state (calls.ReadNext cursor len) reads uses = next_reply-viewed state cursor len
+  read-viewed state (calls.Stat path) reads uses = absurd (cc)
+  read-viewed state (calls.List path size) reads uses = absurd (cc)
+
 -- ---- answers
 
 module _ {A B : Type 0} (read : A → B) (fa : Files A) (fb : Files B) (sizes : (file : A) → fb.size (read file) ≡ fa.size file) where
@@ -337,14 +457,18 @@ module _ {A B : Type 0} (read : A → B) (fa : Files A) (fb : Files B) (sizes : 
   stat_reply-viewed : (state : State A) (text : List ℕ) → stat_reply fb (viewed read state) text ≡ stat_reply fa state text
   stat_reply-viewed state text = at_place-viewed read state text (stat_at fb (viewed read state)) (stat_at fa state) (stat_at-viewed state)
 
-  pub asked-viewed : (state : State A) (call : Call) → asked fb (viewed read state) call ≡ asked fa state call
-  asked-viewed state (calls.Mkdir path) = ap (replied (made_reply state)) (mkdir_at-viewed read state path)
-  asked-viewed state (calls.Create path over) = ap (replied (made_reply state)) (create_at-viewed read state path over)
-  asked-viewed state (calls.Delete path recursive) = ap (replied replies.Done) (delete_at-viewed read state path recursive)
-  asked-viewed state (calls.Rename old new) = ap (replied replies.Done) (rename_at-viewed read state old new)
-  asked-viewed state (calls.SetMode path mode) = ap (replied replies.Done) (set_mode_at-viewed read state path)
-  asked-viewed state (calls.Stat path) = stat_reply-viewed state path
-  asked-viewed state (calls.List path size) = list_reply-viewed read state path size
+  -- the answer of a call that reads no file
+  pub asked-viewed : (state : State A) (call : Call) → (uses_store call && not (is_modifying call)) ≡ false → asked fb (viewed read state) call ≡ asked fa state call
+  asked-viewed state (calls.Mkdir path) no_read = ap (replied (made_reply state)) (mkdir_at-viewed read state path)
+  asked-viewed state (calls.Create path over) no_read = ap (replied (made_reply state)) (create_at-viewed read state path over)
+  asked-viewed state (calls.Append path bytes) no_read = ap (replied replies.Done) (append_at-viewed read state path) ∙ replied-mapped replies.Done (viewed_file read) (append_at state path)
+  asked-viewed state (calls.Delete path recursive) no_read = ap (replied replies.Done) (delete_at-viewed read state path recursive)
+  asked-viewed state (calls.Rename old new) no_read = ap (replied replies.Done) (rename_at-viewed read state old new)
+  asked-viewed state (calls.SetMode path mode) no_read = ap (replied replies.Done) (set_mode_at-viewed read state path)
+  asked-viewed state (calls.Read path offset len) no_read = absurd (cc)
+  asked-viewed state (calls.ReadNext cursor len) no_read = absurd (cc)
+  asked-viewed state (calls.Stat path) no_read = stat_reply-viewed state path
+  asked-viewed state (calls.List path size) no_read = list_reply-viewed read state path size
 
-  pub answer-viewed : (state : State A) (call : Call) → answer_by fb (viewed read state) call ≡ answer_by fa state call
-  answer-viewed state call = ap told (asked-viewed state call)
+  pub answer-viewed : (state : State A) (call : Call) → (uses_store call && not (is_modifying call)) ≡ false → answer_by fb (viewed read state) call ≡ answer_by fa state call
+  answer-viewed state call no_read = ap told (asked-viewed state call no_read)

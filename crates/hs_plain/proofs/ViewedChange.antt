@@ -1,4 +1,4 @@
--- A change looks at no file, so in a state with files kept in another way it is the same.
+-- A change looks at no file but for what an append makes of it, so in a state with files kept in another way it is the same.
 use Rattle.std.proofs.Common.{◌≡◌, ℕ, ◌+◌, true, false, cond, Option, Some, None, Ok, Err, is_some, List, [], ◌∷◌, map, refl, ap, sym, ◌∙◌}
 use Rattle.std.specs.Prelude.{not}
 use Rattle.std.specs.Option.{option_map}
@@ -15,10 +15,10 @@ use Rattle.hs_plain.specs.Asked.{Asked}
 use Rattle.hs_plain.specs.Files.{Files}
 use Rattle.hs_plain.specs.Tree.{Tree, path_cmp, parent_of, same_path}
 use Rattle.hs_plain.specs.State.{new_dir, place_of}
-use Rattle.hs_plain.specs.Answer.{mkdir_at, create_at, delete_at, rename_at, set_mode_at}
-use Rattle.hs_plain.specs.Change.{restamp, stamped, remode, moded, is_under, without, new_path, at_new, repath, put_all, moved, new_file, with_node, made_dir, made_file, still_in, removed, renamed, with_mode, if_asked, change}
+use Rattle.hs_plain.specs.Answer.{mkdir_at, create_at, delete_at, rename_at, set_mode_at, append_at, uses_store}
+use Rattle.hs_plain.specs.Change.{restamp, stamped, remode, moded, is_under, without, new_path, at_new, repath, put_all, moved, new_file, with_node, made_dir, made_file, still_in, removed, renamed, with_mode, refilled, with_file, appended, if_asked, change}
 use Rattle.hs_plain.specs.Viewed.{viewed_node, viewed_place, viewed_tree, viewed}
-use Rattle.hs_plain.proofs.Viewed.{place_of-viewed, mkdir_at-viewed, create_at-viewed, delete_at-viewed, rename_at-viewed, set_mode_at-viewed}
+use Rattle.hs_plain.proofs.Viewed.{place_of-viewed, mkdir_at-viewed, create_at-viewed, delete_at-viewed, rename_at-viewed, set_mode_at-viewed, mapped, viewed_file, append_at-viewed}
 
 module _ {A B : Type 0} (read : A → B) where
   -- ---- trees
@@ -119,6 +119,17 @@ module _ {A B : Type 0} (read : A → B) where
   pub with_mode-viewed : (state : State A) (mode : ℕ) (path : Names) → with_mode (viewed read state) mode path ≡ viewed read (with_mode state mode path)
   with_mode-viewed state mode path = ap (λ (t : Tree B). record (viewed read state) { tree = t }) (moded-viewed state.tree path mode (state.tick + 1))
 
+  pub with_file-viewed : (state : State A) (path : Names) (node : Node A) (file : A) → with_file (viewed read state) path (viewed_node read node) (read file) ≡ viewed read (with_file state path node file)
+  with_file-viewed state path node file = ap (λ (t : Tree B). record (viewed read state) { tree = t }) (put-viewed path (refilled node file (state.tick + 1)) state.tree)
+
+  -- a file with another, which reads as an append makes it
+  pub appended-viewed : (fb : Files B) (state : State A) (text bytes : List ℕ) (path : Names) (node : Node A) (file new : A) → append_at state text ≡ Ok (path, node, file) → read new ≡ fb.append (read file) bytes →
+      change fb (viewed read state) (calls.Append text bytes) ≡ viewed read (with_file state path node new)
+  appended-viewed fb state text bytes path node file new asked longer =
+      ap (if_asked (appended fb (viewed read state) bytes) (viewed read state)) (append_at-viewed read state text ∙ ap (mapped (viewed_file read)) asked)
+      ∙ ap (with_file (viewed read state) path (viewed_node read node)) (sym longer)
+      ∙ with_file-viewed state path node new
+
   -- a change that is made where it isn't refused
   if_asked-viewed : {X : Type 0} (f : X → State A) (g : X → State B) (state : State A) → ((x : X) → g x ≡ viewed read (f x)) → (asked : Asked X) → if_asked g (viewed read state) asked ≡ viewed read (if_asked f state asked)
   if_asked-viewed f g state same (Ok x) = same x
@@ -132,18 +143,42 @@ module _ {A B : Type 0} (read : A → B) (fa : Files A) (fb : Files B) (empty : 
       ap (λ (file : B). with_node (viewed read state) path (record { id = record { 0 = state.next_inode }; mode = 420; stamp = state.tick + 1; body = File file })) (sym empty)
       ∙ with_node-viewed read state path (new_file fa state.next_inode (state.tick + 1))
 
-  pub change-viewed : (state : State A) (call : Call) → change fb (viewed read state) call ≡ viewed read (change fa state call)
-  change-viewed state (calls.Mkdir path) =
+  -- what uses no store
+  pub change-viewed : (state : State A) (call : Call) → uses_store call ≡ false → change fb (viewed read state) call ≡ viewed read (change fa state call)
+  change-viewed state (calls.Mkdir path) no_store =
       ap (if_asked (made_dir (viewed read state)) (viewed read state)) (mkdir_at-viewed read state path) ∙ if_asked-viewed read (made_dir state) (made_dir (viewed read state)) state (made_dir-viewed read state) (mkdir_at state path)
-  change-viewed state (calls.Create path over) =
+  change-viewed state (calls.Create path over) no_store =
       ap (if_asked (made_file fb (viewed read state)) (viewed read state)) (create_at-viewed read state path over)
       ∙ if_asked-viewed read (made_file fa state) (made_file fb (viewed read state)) state (made_file-viewed state) (create_at state path over)
-  change-viewed state (calls.Delete path recursive) =
+  change-viewed state (calls.Append path bytes) no_store = absurd (cc)
+  change-viewed state (calls.Delete path recursive) no_store =
       ap (if_asked (removed (viewed read state)) (viewed read state)) (delete_at-viewed read state path recursive) ∙ if_asked-viewed read (removed state) (removed (viewed read state)) state (removed-viewed read state) (delete_at state path recursive)
-  change-viewed state (calls.Rename old new) =
+  change-viewed state (calls.Rename old new) no_store =
       ap (if_asked (renamed (viewed read state)) (viewed read state)) (rename_at-viewed read state old new) ∙ if_asked-viewed read (renamed state) (renamed (viewed read state)) state (renamed-viewed read state) (rename_at state old new)
-  change-viewed state (calls.SetMode path mode) =
+  change-viewed state (calls.SetMode path mode) no_store =
       ap (if_asked (with_mode (viewed read state) mode) (viewed read state)) (set_mode_at-viewed read state path)
       ∙ if_asked-viewed read (with_mode state mode) (with_mode (viewed read state) mode) state (with_mode-viewed read state mode) (set_mode_at state path)
-  change-viewed state (calls.Stat path) = refl
-  change-viewed state (calls.List path size) = refl
+  change-viewed state (calls.Read path offset len) no_store = refl
+  change-viewed state (calls.ReadNext cursor len) no_store = refl
+  change-viewed state (calls.Stat path) no_store = refl
+  change-viewed state (calls.List path size) no_store = refl
+
+  -- every call, where an append reads as one
+  module _ (longer : (file : A) (bytes : List ℕ) → read (fa.append file bytes) ≡ fb.append (read file) bytes) where
+    if_appended-viewed : (state : State A) (bytes : List ℕ) (at : Asked (Names × Node A × A)) →
+        if_asked (appended fb (viewed read state) bytes) (viewed read state) (mapped (viewed_file read) at) ≡ viewed read (if_asked (appended fa state bytes) state at)
+    if_appended-viewed state bytes (Ok at) =
+        ap (with_file (viewed read state) at.0 (viewed_node read at.1)) (sym (longer at.2 bytes)) ∙ with_file-viewed read state at.0 at.1 (fa.append at.2 bytes)
+    if_appended-viewed state bytes (Err why) = refl
+
+    pub every_change-viewed : (state : State A) (call : Call) → change fb (viewed read state) call ≡ viewed read (change fa state call)
+    every_change-viewed state (calls.Mkdir path) = change-viewed state (calls.Mkdir path) refl
+    every_change-viewed state (calls.Create path over) = change-viewed state (calls.Create path over) refl
+    every_change-viewed state (calls.Append path bytes) = ap (if_asked (appended fb (viewed read state) bytes) (viewed read state)) (append_at-viewed read state path) ∙ if_appended-viewed state bytes (append_at state path)
+    every_change-viewed state (calls.Delete path recursive) = change-viewed state (calls.Delete path recursive) refl
+    every_change-viewed state (calls.Rename old new) = change-viewed state (calls.Rename old new) refl
+    every_change-viewed state (calls.SetMode path mode) = change-viewed state (calls.SetMode path mode) refl
+    every_change-viewed state (calls.Read path offset len) = refl
+    every_change-viewed state (calls.ReadNext cursor len) = refl
+    every_change-viewed state (calls.Stat path) = refl
+    every_change-viewed state (calls.List path size) = refl

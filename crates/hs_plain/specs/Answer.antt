@@ -1,26 +1,30 @@
 -- What a call is answered.
-use Rattle.std.specs.Prelude.{◌≡◌, ℕ, ◌+◌, ◌-◌, slice_get, Bool, true, false, not, ◌&&◌, nat_le, nat_lt, if◌then◌else◌, List, [], ◌∷◌, length, take, Option, Some, None, Ok, Err, is_some}
-use Rattle.std.specs.List.{filter}
+use Rattle.std.specs.Prelude.{ℕ, ◌+◌, ◌-◌, ◌==◌, slice_get, Bool, true, false, not, ◌&&◌, ◌||◌, nat_le, nat_lt, if◌then◌else◌, List, map, length, take, drop, Option, Some, None, Ok, Err, is_some}
+use Rattle.std.specs.List.{filter, list_any}
 use Rattle.std.specs.Ordering.{nat_cmp, is_lt}
 use Rattle.std.specs.Cmp.Lexicographic.{slice_cmp}
 use Rattle.hs_types.specs.Names.{Names}
 use Rattle.hs_types.specs.Paths.{path_of}
-use Rattle.hs_types.specs.declared.ids.InodeId.{InodeId}
+use Rattle.hs_types.specs.declared.ids.SnapId.{SnapId}
 use Rattle.hs_types.specs.declared.call.Call.{Call}
 use Rattle.hs_types.specs.declared.call.Call.TheVariants as calls
 use Rattle.hs_types.specs.declared.call.Reply.{Reply}
 use Rattle.hs_types.specs.declared.call.Reply.TheVariants as replies
-use Rattle.hs_types.specs.declared.call.Refusal.TheVariants.{NotFound, NotFile, Exists, IsRoot, NotEmpty, IntoItself}
+use Rattle.hs_types.specs.declared.call.Refusal.TheVariants.{NotFound, NotFile, Exists, IsRoot, NotEmpty, IntoItself, Gone}
 use Rattle.hs_types.specs.declared.call.Item.{Item}
 use Rattle.hs_types.specs.declared.call.ListCursor.{ListCursor}
+use Rattle.hs_types.specs.declared.call.ReadCursor.{ReadCursor}
 use Rattle.hs_types.specs.declared.call.Place.{Place}
 use Rattle.hs_types.specs.declared.call.Place.TheVariants as places
 use Rattle.hs_plain.specs.declared.state.Node.{Node}
+use Rattle.hs_plain.specs.declared.state.Body.{Body}
+use Rattle.hs_plain.specs.declared.state.Body.TheVariants.{File, Dir}
+use Rattle.hs_plain.specs.declared.state.Member.{Member}
 use Rattle.hs_plain.specs.declared.state.State.{State}
 use Rattle.hs_plain.specs.Asked.{Asked, ◌>>=◌, refuse_if, both}
 use Rattle.hs_plain.specs.Files.{Files, plain_files}
 use Rattle.hs_plain.specs.Tree.{Tree, node_at, walks_above, walk, is_dir, child_count, size_of, is_root_path, is_above}
-use Rattle.hs_plain.specs.State.{resolve, place_of, member_with, snapshots_of, items_at, plain_of}
+use Rattle.hs_plain.specs.State.{resolve, is_snapshottable, place_of, member_with, snapshots_of, items_at, plain_of}
 
 -- ---- pages
 
@@ -85,6 +89,19 @@ create_at state text over = do
 -- whether a directory with children is to be deleted without them
 abbrev pub spares_children : {B : Type 0} → Tree B → Names → Bool → Bool
 spares_children tree path recursive = not recursive && nat_lt 0 (child_count tree path)
+
+-- what stands for a file's bytes; a directory is no file
+abbrev pub file_in : {B : Type 0} → Body B → Asked B
+file_in (File file) = Ok file
+file_in Dir = Err NotFile
+
+-- a file that gets bytes: its path, its node, and what stands for its bytes
+abbrev pub append_at : {B : Type 0} → State B → List ℕ → Asked (Names × Node B × B)
+append_at state text = do
+  path ← live_path text
+  node ← walk state.tree path
+  file ← file_in node.body
+  Ok (path, node, file)
 
 -- a node to be deleted: it is there, it isn't the root, and it has children only where they go too
 abbrev pub delete_at : {B : Type 0} → State B → List ℕ → Bool → Asked Names
@@ -151,6 +168,70 @@ stat_reply files state text = do
   place ← resolve state path
   stat_at files state place
 
+-- ---- reads of a file
+
+-- the file at the place of an id
+abbrev pub file_there : {B : Type 0} → Option (Names × Node B) → Asked B
+file_there None = Err NotFound
+file_there (Some place) = file_in place.1.body
+
+-- the file at a place; a list of snapshots is none
+abbrev pub file_at : {B : Type 0} → State B → Place → Asked B
+file_at state (places.Live id) = file_there (place_of state.tree id)
+file_at state (places.Frozen id snapshot) = do
+  member ← member_with state.members snapshot
+  file_there (place_of member.tree id)
+file_at state (places.SnapshotsOf dir) = if is_snapshottable state dir then Err NotFile else Err NotFound
+
+-- where the next page of a read begins, unless the end is reached
+abbrev pub next_read : Place → ℕ → ℕ → Option ReadCursor
+next_read place size end = if nat_le size end then None else Some (record { place = place; offset = end })
+
+-- the bytes from a place on, at most so many
+abbrev pub bytes_page : Place → List ℕ → ℕ → ℕ → Reply
+bytes_page place bytes offset len = replies.Bytes (take len (drop offset bytes)) (next_read place (length bytes) (offset + len))
+
+-- a page of a file that stands at a place
+abbrev pub page_at : {B : Type 0} → Files B → ℕ → ℕ → Place × B → Reply
+page_at files offset len at = bytes_page at.0 (files.bytes at.1) offset len
+
+-- the file at a path, with its place
+abbrev pub found_file : {B : Type 0} → State B → List ℕ → Asked (Place × B)
+found_file state text = do
+  path ← path_of text
+  place ← resolve state path
+  file ← file_at state place
+  Ok (place, file)
+
+-- a page of the file at a path
+abbrev pub read_reply : {B : Type 0} → Files B → State B → List ℕ → ℕ → ℕ → Asked Reply
+read_reply files state text offset len = do
+  at ← found_file state text
+  Ok (page_at files offset len at)
+
+-- whether a snapshot has this id
+abbrev pub is_live : {B : Type 0} → List (Member B) → SnapId → Bool
+is_live members snapshot = list_any (λ member. member.snapshot.0 == snapshot.0) members
+
+-- a cursor into a copied tree is good while its snapshot is there; no snapshot has the id 0
+abbrev pub is_gone : {B : Type 0} → State B → Place → Bool
+is_gone state (places.Live id) = false
+is_gone state (places.Frozen id snapshot) = not (snapshot.0 == 0) && not (is_live state.members snapshot)
+is_gone state (places.SnapshotsOf dir) = false
+
+-- the file of a cursor, with its place
+abbrev pub next_file : {B : Type 0} → State B → Place → Asked (Place × B)
+next_file state place = do
+  live ← refuse_if (is_gone state place) Gone
+  file ← file_at state place
+  Ok (place, file)
+
+-- the next page of a file
+abbrev pub next_reply : {B : Type 0} → Files B → State B → ReadCursor → ℕ → Asked Reply
+next_reply files state cursor len = do
+  at ← next_file state cursor.place
+  Ok (page_at files cursor.offset len at)
+
 -- ---- all calls
 
 -- a new node gets the next id
@@ -166,9 +247,12 @@ replied reply (Err why) = Err why
 abbrev pub asked : {B : Type 0} → Files B → State B → Call → Asked Reply
 asked files state (calls.Mkdir path) = replied (made_reply state) (mkdir_at state path)
 asked files state (calls.Create path over) = replied (made_reply state) (create_at state path over)
+asked files state (calls.Append path bytes) = replied replies.Done (append_at state path)
 asked files state (calls.Delete path recursive) = replied replies.Done (delete_at state path recursive)
 asked files state (calls.Rename old new) = replied replies.Done (rename_at state old new)
 asked files state (calls.SetMode path mode) = replied replies.Done (set_mode_at state path)
+asked files state (calls.Read path offset len) = read_reply files state path offset len
+asked files state (calls.ReadNext cursor len) = next_reply files state cursor len
 asked files state (calls.Stat path) = stat_reply files state path
 asked files state (calls.List path size) = list_reply state path size
 
@@ -188,29 +272,62 @@ answer state call = answer_by plain_files state call
 abbrev pub is_modifying : Call → Bool
 is_modifying (calls.Mkdir path) = true
 is_modifying (calls.Create path over) = true
+is_modifying (calls.Append path bytes) = true
 is_modifying (calls.Delete path recursive) = true
 is_modifying (calls.Rename old new) = true
 is_modifying (calls.SetMode path mode) = true
+is_modifying (calls.Read path offset len) = false
+is_modifying (calls.ReadNext cursor len) = false
 is_modifying (calls.Stat path) = false
 is_modifying (calls.List path size) = false
 
--- whether a call is made alone: it changes the state
+-- whether a call uses the store, which may fail
+abbrev pub uses_store : Call → Bool
+uses_store (calls.Mkdir path) = false
+uses_store (calls.Create path over) = false
+uses_store (calls.Append path bytes) = true
+uses_store (calls.Delete path recursive) = false
+uses_store (calls.Rename old new) = false
+uses_store (calls.SetMode path mode) = false
+uses_store (calls.Read path offset len) = true
+uses_store (calls.ReadNext cursor len) = true
+uses_store (calls.Stat path) = false
+uses_store (calls.List path size) = false
+
+-- whether a call is made alone: it changes the state, or uses the store
 abbrev pub is_exclusive : Call → Bool
-is_exclusive call = is_modifying call
+is_exclusive call = is_modifying call || uses_store call
 
 -- whether a call may be made beside others
 abbrev pub is_shared : Call → Bool
 is_shared call = not (is_exclusive call)
 
--- a call that may meet a fault of the store
-abbrev pub uses_store : Call → Bool
-uses_store call = false
-
 -- whether a reply says that the call was done
 abbrev pub is_ok_reply : Reply → Bool
 is_ok_reply (replies.Made id) = true
 is_ok_reply replies.Done = true
+is_ok_reply (replies.Bytes bytes next) = true
 is_ok_reply (replies.Stat id is_dir mode stamp size) = true
 is_ok_reply (replies.Page items next) = true
 is_ok_reply (replies.Refused why) = false
 is_ok_reply replies.NoMemory = false
+
+-- ---- replies over a store that doesn't tell its bytes
+
+-- a zero for each byte
+abbrev pub blank : List ℕ → List ℕ
+blank bytes = map (λ byte. 0) bytes
+
+-- the reply but for the bytes of a file
+abbrev pub blanked : Reply → Reply
+blanked (replies.Made id) = replies.Made id
+blanked replies.Done = replies.Done
+blanked (replies.Bytes bytes next) = replies.Bytes (blank bytes) next
+blanked (replies.Stat id is_dir mode stamp size) = replies.Stat id is_dir mode stamp size
+blanked (replies.Page items next) = replies.Page items next
+blanked (replies.Refused why) = replies.Refused why
+blanked replies.NoMemory = replies.NoMemory
+
+-- what is claimed of a reply: all of it where the store tells its bytes, and else all but the bytes
+abbrev pub claimed : Bool → Reply → Reply
+claimed tells reply = if tells then reply else blanked reply

@@ -16,7 +16,7 @@ use Rattle.hs_plain.specs.Asked.{Asked}
 use Rattle.hs_plain.specs.Files.{Files}
 use Rattle.hs_plain.specs.Tree.{Tree, path_cmp, parent_of, same_path}
 use Rattle.hs_plain.specs.State.{new_dir, place_of}
-use Rattle.hs_plain.specs.Answer.{mkdir_at, create_at, delete_at, rename_at, set_mode_at, is_modifying}
+use Rattle.hs_plain.specs.Answer.{mkdir_at, create_at, delete_at, rename_at, set_mode_at, append_at, is_modifying}
 
 -- ---- trees
 
@@ -84,6 +84,18 @@ made_dir state path = with_node state path (new_dir state.next_inode (state.tick
 abbrev pub made_file : {B : Type 0} → Files B → State B → Names → State B
 made_file files state path = with_node state path (new_file files state.next_inode (state.tick + 1))
 
+-- a file with this in place of what stood for its bytes
+abbrev pub refilled : {B : Type 0} → Node B → B → ℕ → Node B
+refilled node file tick = record node { stamp = tick; body = File file }
+
+-- the node at a path becomes one with another file
+abbrev pub with_file : {B : Type 0} → State B → Names → Node B → B → State B
+with_file state path node file = record state { tree = put path_cmp path (refilled node file (state.tick + 1)) state.tree }
+
+-- bytes more at the end of a file, also where there are none
+abbrev pub appended : {B : Type 0} → Files B → State B → List ℕ → Names × Node B × B → State B
+appended files state bytes at = with_file state at.0 at.1 (files.append at.2 bytes)
+
 -- the ids of nodes that are in a tree
 abbrev pub still_in : {B : Type 0} → Tree B → List InodeId → List InodeId
 still_in tree ids = filter (λ id. is_some (place_of tree id)) ids
@@ -114,9 +126,12 @@ if_asked change state (Err why) = state
 abbrev pub change : {B : Type 0} → Files B → State B → Call → State B
 change files state (calls.Mkdir path) = if_asked (made_dir state) state (mkdir_at state path)
 change files state (calls.Create path over) = if_asked (made_file files state) state (create_at state path over)
+change files state (calls.Append path bytes) = if_asked (appended files state bytes) state (append_at state path)
 change files state (calls.Delete path recursive) = if_asked (removed state) state (delete_at state path recursive)
 change files state (calls.Rename old new) = if_asked (renamed state) state (rename_at state old new)
 change files state (calls.SetMode path mode) = if_asked (with_mode state mode) state (set_mode_at state path)
+change files state (calls.Read path offset len) = state
+change files state (calls.ReadNext cursor len) = state
 change files state (calls.Stat path) = state
 change files state (calls.List path size) = state
 

@@ -1,14 +1,16 @@
 -- Which answers are right for a call, at a place of a namenode's one history.
-use Rattle.std.specs.Prelude.{◌≡◌, ℕ, ◌+◌, ◌-◌, ◌^◌, ◌<◌, ◌≤◌, Bool, true, false, ◌&&◌, ◌||◌, ◌==◌, nat_le, nat_lt, not, IsTrue, if◌then◌else◌, List, [], ◌∷◌, length, take, slice_get, map, Option, Some, None}
+use Rattle.std.specs.Prelude.{◌≡◌, ℕ, ◌+◌, ◌-◌, ◌^◌, ◌≤◌, Bool, true, false, ◌&&◌, ◌||◌, ◌==◌, nat_le, nat_lt, not, if◌then◌else◌, List, [], ◌∷◌, length, take, slice_get, Option, Some, None}
 use Rattle.std.specs.List.{filter, filter_map, AllByRecursion}
 use Rattle.hs_types.specs.declared.ids.CallerId.{CallerId}
 use Rattle.hs_types.specs.declared.call.Call.{Call}
 use Rattle.hs_types.specs.declared.call.Reply.{Reply}
-use Rattle.hs_types.specs.declared.call.Reply.TheVariants.{Made, Done, Stat, Page, Refused, NoMemory}
-use Rattle.hs_types.specs.declared.call.EntryKind.TheVariants.{Accepted}
+use Rattle.hs_types.specs.declared.call.Reply.TheVariants.{Made, Done, Bytes, Stat, Page, Refused, NoMemory}
+use Rattle.hs_types.specs.declared.call.EntryKind.{EntryKind}
+use Rattle.hs_types.specs.declared.call.EntryKind.TheVariants.{Accepted, Faulted}
 use Rattle.hs_types.specs.declared.call.Entry.{Entry}
 use Rattle.hs_types.specs.declared.call.Answered.{Answered}
-use Rattle.hs_plain.specs.Answer.{answer, is_modifying, is_ok_reply}
+use Rattle.hs_types.specs.Refusals.{number_of}
+use Rattle.hs_plain.specs.Answer.{answer, claimed, is_modifying, is_ok_reply}
 use Rattle.hs_plain.specs.Replay.{plain_after}
 
 -- a call with its number among its caller's calls, and what was answered
@@ -17,34 +19,49 @@ pub record Said : Type 0 where
   pub call : Call
   pub told : Answered
 
+-- whether a reply says that the store failed
+abbrev pub is_store_fault : Reply → Bool
+is_store_fault (Made id) = false
+is_store_fault Done = false
+is_store_fault (Bytes bytes next) = false
+is_store_fault (Stat id is_dir mode stamp size) = false
+is_store_fault (Page items next) = false
+is_store_fault (Refused why) = number_of why == 23
+is_store_fault NoMemory = false
+
 -- a reply of the plain machine; the others change nothing but the tick
 abbrev pub is_plain_reply : Reply → Bool
 is_plain_reply (Made id) = true
 is_plain_reply Done = true
+is_plain_reply (Bytes bytes next) = true
 is_plain_reply (Stat id is_dir mode stamp size) = true
 is_plain_reply (Page items next) = true
-is_plain_reply (Refused why) = true
+is_plain_reply (Refused why) = not (number_of why == 23)
 is_plain_reply NoMemory = false
 
--- whether the call left an entry in the journal
+-- whether the call left an entry in the journal: a change that was accepted, or a fault of the store
 abbrev pub leaves_entry : Call → Reply → Bool
-leaves_entry call reply = is_modifying call && is_ok_reply reply
+leaves_entry call reply = is_store_fault reply || (is_modifying call && is_ok_reply reply)
 
-abbrev pub accepted_entry : CallerId → ℕ → Call → Entry
-accepted_entry caller seq call = record { caller = caller; seq = seq; kind = Accepted; call = call }
+abbrev pub kind_of : Reply → EntryKind
+kind_of reply = if is_store_fault reply then Faulted else Accepted
+
+-- the entry that a call leaves, if it leaves one
+abbrev pub entry_of : CallerId → ℕ → Call → Reply → Entry
+entry_of caller seq call reply = record { caller = caller; seq = seq; kind = kind_of reply; call = call }
 
 -- how much of the journal the answer knows: its own entry is the last of it
 abbrev pub reach_of : Call → Answered → ℕ
 reach_of call told = told.position + (if leaves_entry call told.reply then 1 else 0)
 
--- one call is answered as the plain machine does at its place in the journal
-pub record IsLegalCall (journal : List Entry) (caller : CallerId) (seq : ℕ) (call : Call) (told : Answered) : Type 0 where
+-- one call is answered as the plain machine does at its place in the journal, over a store that tells its bytes or doesn't
+pub record IsLegalCall (tells : Bool) (journal : List Entry) (caller : CallerId) (seq : ℕ) (call : Call) (told : Answered) : Type 0 where
   -- its place is in the journal
   pub within : told.position ≤ length journal
   -- the reply is the plain machine's
-  pub answered : is_plain_reply told.reply ≡ true → told.reply ≡ answer (plain_after (take told.position journal)) call
-  -- an accepted modifying call has its entry there
-  pub entered : leaves_entry call told.reply ≡ true → slice_get journal told.position ≡ Some (accepted_entry caller seq call)
+  pub answered : is_plain_reply told.reply ≡ true → claimed tells told.reply ≡ claimed tells (answer (plain_after (take told.position journal)) call)
+  -- an accepted modifying call has its entry there, and so has a fault of the store
+  pub entered : leaves_entry call told.reply ≡ true → slice_get journal told.position ≡ Some (entry_of caller seq call told.reply)
   -- the call is handed back exactly where it left no entry
   pub kept : leaves_entry call told.reply ≡ true → told.back ≡ None
   pub handed_back : leaves_entry call told.reply ≡ false → told.back ≡ Some call
@@ -54,7 +71,7 @@ is_caller caller entry = entry.caller.0 == caller.0
 
 -- the entry that a call left
 abbrev pub entry_left : CallerId → Said → Option Entry
-entry_left caller said = if leaves_entry said.call said.told.reply then Some (accepted_entry caller said.seq said.call) else None
+entry_left caller said = if leaves_entry said.call said.told.reply then Some (entry_of caller said.seq said.call said.told.reply) else None
 
 -- the numbers rise from one call to the next; the greatest number, at which they stay, may come again
 abbrev pub numbers_rise : ℕ → List Said → Bool
@@ -67,8 +84,8 @@ places_rise reach [] = true
 places_rise reach (said ∷ more) = nat_le reach said.told.position && places_rise (reach_of said.call said.told) more
 
 -- the calls of one caller are answered legally in a namenode's journal, and the caller's entries are those that they left, in order
-pub record AreLegalCalls (journal : List Entry) (caller : CallerId) (calls : List Said) : Type 0 where
-  pub each : AllByRecursion (λ said. IsLegalCall journal caller said.seq said.call said.told) calls
+pub record AreLegalCalls (tells : Bool) (journal : List Entry) (caller : CallerId) (calls : List Said) : Type 0 where
+  pub each : AllByRecursion (λ said. IsLegalCall tells journal caller said.seq said.call said.told) calls
   pub numbers : numbers_rise 0 calls ≡ true
   pub places : places_rise 0 calls ≡ true
   pub entries : filter (is_caller caller) journal ≡ filter_map (entry_left caller) calls

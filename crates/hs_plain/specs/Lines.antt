@@ -28,6 +28,6 @@ lines_of bytes tree = map (tree_line bytes tree) tree
 abbrev pub tree_lines : State (List ℕ) → List TreeLine
 tree_lines state = lines_of length state.tree
 
--- rows are the live nodes, and list entries all but the root; no block is in use yet
-abbrev pub counts_of : {B : Type 0} → State B → Counts
-counts_of state = record { rows = length state.tree; records = 0; list_entries = length state.tree - 1; snapshots = length state.members; blocks = 0 }
+-- rows are the live nodes, and list entries all but the root; the blocks are those of a store
+abbrev pub counts_of : {B : Type 0} → State B → ℕ → Counts
+counts_of state blocks = record { rows = length state.tree; records = 0; list_entries = length state.tree - 1; snapshots = length state.members; blocks = blocks }

@@ -1,6 +1,7 @@
 -- A state in which files are kept in another way.
-use Rattle.std.specs.Prelude.{◌≡◌, ℕ, List, map, length}
+use Rattle.std.specs.Prelude.{◌≡◌, ℕ, List, map, length, Option, None, Some, ⊤}
 use Rattle.hs_types.specs.Names.{Names}
+use Rattle.hs_types.specs.Blocks.{BlockMap, file_bytes}
 use Rattle.hs_plain.specs.declared.state.Node.{Node}
 use Rattle.hs_plain.specs.declared.state.Body.{Body}
 use Rattle.hs_plain.specs.declared.state.Body.TheVariants.{File, Dir}
@@ -29,10 +30,15 @@ viewed_member read member = record { snapshot = member.snapshot; directory = mem
 abbrev pub viewed : {A B : Type 0} → (A → B) → State A → State B
 viewed read state = record { tree = viewed_tree read state.tree; snapshottable = state.snapshottable; members = map (viewed_member read) state.members; next_inode = state.next_inode; next_snapshot = state.next_snapshot; tick = state.tick }
 
--- a way to read a file's blocks that gives as many bytes as the file has
-abbrev pub KeepsSizes : (FileBlocks → List ℕ) → Type 0
-KeepsSizes read = (file : FileBlocks) → length (read file) ≡ file.size
-
--- whatever bytes the blocks hold, the state with blocks is the plain one
+-- the state with blocks is the plain one, but for the bytes: each file has as many as its size says
 abbrev pub StandsFor : State FileBlocks → State (List ℕ) → Type 0
-StandsFor whole plain = (read : FileBlocks → List ℕ) → KeepsSizes read → viewed read whole ≡ plain
+StandsFor whole plain = viewed (λ file. file.size) whole ≡ viewed length plain
+
+-- the bytes that a file's blocks have
+abbrev pub bytes_in : BlockMap → FileBlocks → List ℕ
+bytes_in map file = file_bytes map file.size file.blocks
+
+-- where the store tells its blocks, they have the bytes
+abbrev pub HasBytes : Option BlockMap → State FileBlocks → State (List ℕ) → Type 0
+HasBytes None whole plain = ⊤
+HasBytes (Some map) whole plain = viewed (bytes_in map) whole ≡ plain

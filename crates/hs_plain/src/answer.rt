@@ -1,22 +1,23 @@
 //! The answers of the plain machine.
-ghost use Rattle.std.specs.Prelude.{◌≡◌, ◌≢◌, ◌++◌, Ok, Err, IfOk, OnOk, OnErr, MatchResult, Some, None};
+ghost use Rattle.std.specs.Prelude.{◌≡◌, ◌≢◌, ◌+◌, ◌++◌, take, drop, Ok, Err, IfOk, OnOk, OnErr, MatchResult, Some, None};
 ghost use Rattle.std.specs.Option.{option_copied};
 ghost use Rattle.hs_types.specs.Paths.{path_of};
 ghost use Rattle.hs_plain.specs.Faults.{IsFaultOf, told_reply};
+ghost use Rattle.hs_plain.specs.Files.{plain_files};
 ghost use Rattle.hs_plain.specs.Asked.{refuse_if as plain_refuse_if, first_of as plain_first_of, both as plain_both};
 ghost use Rattle.hs_plain.specs.Tree.{walk as plain_walk, walks_above as plain_walks_above};
 ghost use Rattle.hs_plain.specs.State.{plain_of as plain_plain_of, snapshots_of as plain_snapshots_of};
-ghost use Rattle.hs_plain.specs.Answer.{last_name as plain_last_name, first_page as plain_first_page, live_path as plain_live_path, mkdir_at as plain_mkdir_at, takes_place_of as plain_takes_place_of, create_at as plain_create_at, spares_children as plain_spares_children, delete_at as plain_delete_at, may_move as plain_may_move, rename_at as plain_rename_at, set_mode_at as plain_set_mode_at, list_reply as plain_list_reply, node_stat as plain_node_stat, list_stat as plain_list_stat, stat_at as plain_stat_at, stat_reply as plain_stat_reply, asked as plain_asked, answer as plain_answer, is_exclusive as is_plain_exclusive};
+ghost use Rattle.hs_plain.specs.Answer.{last_name as plain_last_name, first_page as plain_first_page, live_path as plain_live_path, mkdir_at as plain_mkdir_at, takes_place_of as plain_takes_place_of, create_at as plain_create_at, spares_children as plain_spares_children, delete_at as plain_delete_at, may_move as plain_may_move, rename_at as plain_rename_at, set_mode_at as plain_set_mode_at, append_at as plain_append_at, next_read as plain_next_read, page_at as plain_page_at, found_file as plain_found_file, next_file as plain_next_file, read_reply as plain_read_reply, next_reply as plain_next_reply, is_modifying as is_plain_modifying, list_reply as plain_list_reply, node_stat as plain_node_stat, list_stat as plain_list_stat, stat_at as plain_stat_at, stat_reply as plain_stat_reply, asked as plain_asked, answer as plain_answer, is_exclusive as is_plain_exclusive};
 
 use crate::files::FileBody;
-use crate::resolve::{AskFault, items_at, member_with, resolve};
-use crate::state::{Member, Node, PlainState, State};
+use crate::resolve::{AskFault, file_at, file_in, is_gone, items_at, member_with, resolve};
+use crate::state::{Bytes, Member, Node, PlainState, State};
 use crate::tree::{
     child_count, is_above, is_root_path, node_at, place_of, size_of, walk, walks_above,
 };
 use hs_types::{
-    Call, Duplicate, InodeId, Item, List, ListCursor, Name, NoMemory, PageSize, Path, PathFault,
-    PathTail, PathText, Place, Refusal, RelPath, Reply,
+    Call, Chunk, Duplicate, InodeId, Item, List, ListCursor, Name, NoMemory, PageSize, Path,
+    PathFault, PathTail, PathText, Place, ReadCursor, ReadLen, Refusal, RelPath, Reply,
 };
 use std::alloc::Global;
 
@@ -236,6 +237,20 @@ pub fn set_mode_at<B>(
     Ok(path)
 }
 
+/// A file that gets bytes: its path, its node, and what stands for its bytes.
+pub fn append_at<'s, B>(
+    alloc: Global,
+    state: &'s State<B>,
+    text: &PathText,
+) -> Result<(List<Name>, &'s Node<B>, &'s B), AskFault>
+    ensures { MatchResult result (λ at. plain_append_at state.now text.now ≡ Ok (at.0, at.1.now, at.2.now)) (IsFaultOf (plain_append_at state.now text.now)) }
+{
+    let path = live_path(alloc, text)?;
+    let node = walk(state.tree.items(), path.items())?;
+    let file = file_in(&node.body)?;
+    Ok((path, node, file))
+}
+
 /// The first page of a directory, or of the list of its snapshots.
 pub fn list_page<B>(
     alloc: Global,
@@ -330,6 +345,100 @@ pub fn stat<B: FileBody>(
     Ok(stat_at(state, place)?)
 }
 
+/// A file's bytes from a place on, at most so many.
+fn cut(alloc: Global, bytes: &Bytes, offset: u64, len: ReadLen) -> Result<Chunk, NoMemory>
+    ensures { IfOk result (λ chunk. chunk ≡ take len (drop offset bytes.now)) }
+{
+    let all = bytes.items();
+    let from = (all.len() as u64).min(offset) as usize;
+    let rest = &all[from..];
+    let count = rest.len().min(len.bytes() as usize);
+    let mut page = Vec::with_capacity(alloc, count)?;
+    page.extend_from_slice(&rest[..count])?;
+    match Chunk::new(page) {
+        Ok(chunk) => Ok(chunk),
+        Err(_) => unreachable!(),
+    }
+}
+
+/// Where the next page of a read begins, unless the end is reached.
+pub fn next_read(place: Place, size: u64, offset: u64, len: ReadLen) -> Option<ReadCursor>
+    ensures { result ≡ plain_next_read place size (offset + len) }
+{
+    let end = offset.saturating_add(u64::from(len.bytes()));
+    if size <= end {
+        None
+    } else {
+        Some(ReadCursor { place, offset: end })
+    }
+}
+
+/// A page of a file that stands at a place.
+fn page_at(
+    alloc: Global,
+    place: Place,
+    file: &Bytes,
+    offset: u64,
+    len: ReadLen,
+) -> Result<Reply, NoMemory>
+    ensures { IfOk result (λ reply. reply ≡ plain_page_at plain_files offset len (place, file.now)) }
+{
+    Ok(Reply::Bytes {
+        bytes: cut(alloc, file, offset, len)?,
+        next: next_read(place, file.len() as u64, offset, len),
+    })
+}
+
+/// The file at a path, with its place.
+pub fn found_file<'s, B>(
+    alloc: Global,
+    state: &'s State<B>,
+    text: &PathText,
+) -> Result<(Place, &'s B), AskFault>
+    ensures { MatchResult result (λ at. plain_found_file state.now text.now ≡ Ok (at.0, at.1.now)) (IsFaultOf (plain_found_file state.now text.now)) }
+{
+    let path = read_path(alloc, text)?;
+    let place = resolve(state, &path)?;
+    let file = file_at(state, place)?;
+    Ok((place, file))
+}
+
+/// The file of a cursor, with its place.
+pub fn next_file<B>(state: &State<B>, place: Place) -> Result<(Place, &B), Refusal>
+    ensures { MatchResult result (λ at. plain_next_file state.now place ≡ Ok (at.0, at.1.now)) (λ why. plain_next_file state.now place ≡ Err why) }
+{
+    refuse_if(is_gone(state, place), Refusal::Gone)?;
+    let file = file_at(state, place)?;
+    Ok((place, file))
+}
+
+/// A page of the file at a path.
+fn read(
+    alloc: Global,
+    state: &PlainState,
+    path: &PathText,
+    offset: u64,
+    len: ReadLen,
+) -> Result<Reply, AskFault>
+    ensures { MatchResult result (λ reply. plain_read_reply plain_files state.now path.now offset len ≡ Ok reply) (IsFaultOf (plain_read_reply plain_files state.now path.now offset len)) }
+{
+    let (place, file) = found_file(alloc, state, path)?;
+    Ok(page_at(alloc, place, file, offset, len)?)
+}
+
+/// The next page of a file.
+fn read_next(
+    alloc: Global,
+    state: &PlainState,
+    cursor: ReadCursor,
+    len: ReadLen,
+) -> Result<Reply, AskFault>
+    ensures { MatchResult result (λ reply. plain_next_reply plain_files state.now cursor len ≡ Ok reply) (IsFaultOf (plain_next_reply plain_files state.now cursor len)) }
+{
+    let (place, file) = next_file(state, cursor.place)?;
+    Ok(page_at(alloc, place, file, cursor.offset, len)?)
+}
+
 /// The reply that a result stands for.
 pub fn reply_of(asked: Result<Reply, AskFault>) -> Reply
     ensures { result ≡ told_reply asked }
@@ -351,22 +460,30 @@ fn replied<X: Drop>(reply: Reply, asked: Result<X, AskFault>) -> Result<Reply, A
     }
 }
 
-/// Whether a call is made alone: it may change the state.
-pub fn is_exclusive(call: &Call) -> bool
-    ensures { result ≡ is_plain_exclusive call.now }
+/// Whether a call may change the state.
+pub fn is_modifying(call: &Call) -> bool
+    ensures { result ≡ is_plain_modifying call.now }
 {
     match call {
         Call::Mkdir { .. }
         | Call::Create { .. }
+        | Call::Append { .. }
         | Call::Delete { .. }
         | Call::Rename { .. }
         | Call::SetMode { .. } => true,
-        Call::Stat { .. } | Call::List { .. } => false,
+        Call::Read { .. } | Call::ReadNext { .. } | Call::Stat { .. } | Call::List { .. } => false,
     }
 }
 
-fn asked<B: FileBody>(alloc: Global, state: &State<B>, call: &Call) -> Result<Reply, AskFault>
-    ensures { MatchResult result (λ reply. plain_asked B.files state.now call.now ≡ Ok reply) (IsFaultOf (plain_asked B.files state.now call.now)) }
+/// Whether a call is made alone: it may change the state, or uses the store.
+pub fn is_exclusive(call: &Call) -> bool
+    ensures { result ≡ is_plain_exclusive call.now }
+{
+    is_modifying(call) || matches!(call, Call::Read { .. } | Call::ReadNext { .. })
+}
+
+fn asked(alloc: Global, state: &PlainState, call: &Call) -> Result<Reply, AskFault>
+    ensures { MatchResult result (λ reply. plain_asked plain_files state.now call.now ≡ Ok reply) (IsFaultOf (plain_asked plain_files state.now call.now)) }
 {
     let made = Reply::Made {
         id: InodeId(state.next_inode),
@@ -374,11 +491,14 @@ fn asked<B: FileBody>(alloc: Global, state: &State<B>, call: &Call) -> Result<Re
     match call {
         Call::Mkdir { path } => replied(made, mkdir_at(alloc, state, path)),
         Call::Create { path, over } => replied(made, create_at(alloc, state, path, *over)),
+        Call::Append { path, .. } => replied(Reply::Done, append_at(alloc, state, path)),
         Call::Delete { path, recursive } => {
             replied(Reply::Done, delete_at(alloc, state, path, *recursive))
         }
         Call::Rename { old, new } => replied(Reply::Done, rename_at(alloc, state, old, new)),
         Call::SetMode { path, .. } => replied(Reply::Done, set_mode_at(alloc, state, path)),
+        Call::Read { path, offset, len } => read(alloc, state, path, *offset, *len),
+        Call::ReadNext { cursor, len } => read_next(alloc, state, *cursor, *len),
         Call::Stat { path } => stat(alloc, state, path),
         Call::List { path, size } => list_page(alloc, state, path, *size),
     }

@@ -6,15 +6,18 @@ ghost use Rattle.hs_types.specs.declared.call.Call.TheVariants as calls;
 ghost use Rattle.hs_plain.specs.Faults.{IsFaultOf};
 ghost use Rattle.hs_plain.specs.Tree.{path_cmp, parent_of as plain_parent_of, is_after, is_place_at as is_plain_place_at};
 ghost use Rattle.hs_plain.specs.State.{new_dir, place_of as plain_place_of};
-ghost use Rattle.hs_plain.specs.Answer.{asked, is_modifying};
-ghost use Rattle.hs_plain.specs.Change.{restamp as plain_restamp, stamped, remode as plain_remode, moded, is_under as is_plain_under, without, new_path as plain_new_path, at_new, repath, put_all as plain_put_all, moved, new_file, with_node, still_in as plain_still_in, removed, renamed, with_mode, change};
+ghost use Rattle.hs_plain.specs.Files.{plain_files};
+ghost use Rattle.hs_plain.specs.Answer.{asked, made_reply, is_modifying, uses_store};
+ghost use Rattle.hs_plain.specs.Change.{restamp as plain_restamp, stamped, remode as plain_remode, moded, is_under as is_plain_under, without, new_path as plain_new_path, at_new, repath, put_all as plain_put_all, moved, new_file, made_file, with_node, still_in as plain_still_in, removed, renamed, with_mode, change};
 
-use crate::answer::{create_at, delete_at, mkdir_at, rename_at, set_mode_at};
+use crate::answer::{append_at, create_at, delete_at, mkdir_at, rename_at, set_mode_at};
 use crate::files::FileBody;
 use crate::resolve::AskFault;
-use crate::state::{Body, Node, State, Tree};
+use crate::state::{Body, Bytes, Node, PlainState, State, Tree};
 use crate::tree::{compare_paths, place_of};
-use hs_types::{Call, Duplicate, InodeId, List, Mode, Name, NoMemory, PathText, RelPath, Reply};
+use hs_types::{
+    Call, Chunk, Duplicate, InodeId, List, Mode, Name, NoMemory, PathText, RelPath, Reply,
+};
 use std::alloc::Global;
 use std::cmp::Ordering;
 
@@ -83,7 +86,7 @@ fn comes_last<B>(places: &[(RelPath, Node<B>)], path: &[Name]) -> bool
 }
 
 /// How many places at the front stand before a path: all of them, where places come in order.
-fn rank_of<B>(places: &[(RelPath, Node<B>)], path: &[Name]) -> usize
+pub fn rank_of<B>(places: &[(RelPath, Node<B>)], path: &[Name]) -> usize
     requires { is_sorted path_cmp places.now ≡ true }
     ensures rank { result ≡ prefix_len (is_after path.now) places.now }
     ensures within { result ≤ length places.now }
@@ -177,7 +180,7 @@ fn keep_ids<B>(ids: &mut Vec<InodeId>, tree: &[(RelPath, Node<B>)])
 }
 
 /// Removes what is at a path or below it.
-fn remove_node<B: Drop>(state: &mut State<B>, path: &[Name])
+pub fn remove_node<B: Drop>(state: &mut State<B>, path: &[Name])
     requires ticks { state.old.tick + 1 < 2 ^ 64 }
     ensures { state.new ≡ removed state.old path.now }
 {
@@ -309,6 +312,30 @@ fn make_dir<B: FileBody>(
     Ok(Reply::Made { id })
 }
 
+/// Makes an empty file at a path at which one may be made, also over another. Without memory the state is as before.
+pub fn put_file<B: FileBody>(
+    alloc: Global,
+    state: &mut State<B>,
+    path: List<Name>,
+) -> Result<Reply, NoMemory>
+    requires ticks { state.old.tick + 1 < 2 ^ 64 }
+    requires inodes { state.old.next_inode + 1 < 2 ^ 64 }
+    requires sorted { is_sorted path_cmp state.old.tree ≡ true }
+    ensures reply { IfOk result (λ reply. reply ≡ made_reply state.old) }
+    ensures ok { OnOk result (state.new ≡ made_file B.files state.old path) }
+    ensures err { OnErr result (state.new ≡ state.old) }
+{
+    let id = InodeId(state.next_inode);
+    let node = Node {
+        id,
+        mode: Mode::of_file(),
+        stamp: state.tick + 1,
+        body: Body::File(B::empty(alloc)),
+    };
+    add_node(state, path, node)?;
+    Ok(Reply::Made { id })
+}
+
 fn make_file<B: FileBody>(
     alloc: Global,
     state: &mut State<B>,
@@ -324,15 +351,7 @@ fn make_file<B: FileBody>(
     ensures err { OnErr result (state.new ≡ state.old) }
 {
     let path = create_at(alloc, state, path, over)?;
-    let id = InodeId(state.next_inode);
-    let node = Node {
-        id,
-        mode: Mode::of_file(),
-        stamp: state.tick + 1,
-        body: Body::File(B::empty(alloc)),
-    };
-    add_node(state, path, node)?;
-    Ok(Reply::Made { id })
+    Ok(put_file(alloc, state, path)?)
 }
 
 fn delete<B: FileBody>(
@@ -392,14 +411,65 @@ fn change_mode<B: FileBody>(
     Ok(Reply::Done)
 }
 
-/// Makes the change of a modifying call, where it isn't refused, and gives the reply. The tick stays. After a
-/// refusal, and without memory, the state is as before.
+/// A file's bytes with more at the end.
+fn longer(file: &Bytes, bytes: &[u8]) -> Result<Bytes, NoMemory>
+    ensures { IfOk result (λ longer. longer ≡ file.now ++ bytes.now) }
+{
+    let mut all = file.copy_bytes()?.into_vec();
+    all.extend_from_slice(bytes)?;
+    Ok(List::of(all))
+}
+
+/// Puts a node in the place of the one at a path.
+fn put_node<B: Drop>(state: &mut State<B>, path: List<Name>, node: Node<B>) -> Result<(), NoMemory>
+    requires sorted { is_sorted path_cmp state.old.tree ≡ true }
+    ensures ok { OnOk result (state.new ≡ record state.old { tree = put path_cmp path node state.old.tree }) }
+    ensures err { OnErr result (state.new ≡ state.old) }
+{
+    let mut places = state.tree.take();
+    let reserved = places.reserve(1);
+    if reserved.is_ok() {
+        put_place(&mut places, path, node);
+    }
+    state.tree = List::of(places);
+    Ok(reserved?)
+}
+
+fn append(
+    alloc: Global,
+    state: &mut PlainState,
+    path: &PathText,
+    bytes: &Chunk,
+) -> Result<Reply, AskFault>
+    requires ticks { state.old.tick + 1 < 2 ^ 64 }
+    requires sorted { is_sorted path_cmp state.old.tree ≡ true }
+    ensures reply { IfOk result (λ reply. asked plain_files state.old (calls.Append path.now bytes.now) ≡ Ok reply) }
+    ensures fault { IfErr result (IsFaultOf (asked plain_files state.old (calls.Append path.now bytes.now))) }
+    ensures ok { OnOk result (state.new ≡ change plain_files state.old (calls.Append path.now bytes.now)) }
+    ensures tick { state.new.tick ≡ state.old.tick }
+    ensures inodes { state.new.next_inode ≡ state.old.next_inode }
+    ensures err { OnErr result (state.new ≡ state.old) }
+{
+    let (path, node, file) = append_at(alloc, state, path)?;
+    let node = Node {
+        id: node.id,
+        mode: node.mode,
+        stamp: state.tick + 1,
+        body: Body::File(longer(file, bytes.bytes())?),
+    };
+    put_node(state, path, node)?;
+    Ok(Reply::Done)
+}
+
+/// Makes the change of a modifying call that uses no store, where it isn't refused, and gives the reply. The tick
+/// stays. After a refusal, and without memory, the state is as before.
 pub fn make_change<B: FileBody>(
     alloc: Global,
     state: &mut State<B>,
     call: &Call,
 ) -> Result<Reply, AskFault>
     requires modifying { is_modifying call.now ≡ true }
+    requires storeless { uses_store call.now ≡ false }
     requires ticks { state.old.tick + 1 < 2 ^ 64 }
     requires inodes { state.old.next_inode + 1 < 2 ^ 64 }
     requires sorted { is_sorted path_cmp state.old.tree ≡ true }
@@ -416,6 +486,33 @@ pub fn make_change<B: FileBody>(
         Call::Delete { path, recursive } => delete(alloc, state, path, *recursive),
         Call::Rename { old, new } => rename(alloc, state, old, new),
         Call::SetMode { path, mode } => change_mode(alloc, state, path, *mode),
-        Call::Stat { .. } | Call::List { .. } => unreachable!(),
+        Call::Append { .. }
+        | Call::Read { .. }
+        | Call::ReadNext { .. }
+        | Call::Stat { .. }
+        | Call::List { .. } => unreachable!(),
+    }
+}
+
+/// Makes the change of a modifying call in a plain state, as `make_change` does, also of an append.
+pub fn make_plain_change(
+    alloc: Global,
+    state: &mut PlainState,
+    call: &Call,
+) -> Result<Reply, AskFault>
+    requires modifying { is_modifying call.now ≡ true }
+    requires ticks { state.old.tick + 1 < 2 ^ 64 }
+    requires inodes { state.old.next_inode + 1 < 2 ^ 64 }
+    requires sorted { is_sorted path_cmp state.old.tree ≡ true }
+    ensures reply { IfOk result (λ reply. asked plain_files state.old call.now ≡ Ok reply) }
+    ensures fault { IfErr result (IsFaultOf (asked plain_files state.old call.now)) }
+    ensures ok { OnOk result (state.new ≡ change plain_files state.old call.now) }
+    ensures inodes { state.new.next_inode ≤ state.old.next_inode + 1 }
+    ensures tick { state.new.tick ≡ state.old.tick }
+    ensures err { OnErr result (state.new ≡ state.old) }
+{
+    match call {
+        Call::Append { path, bytes } => append(alloc, state, path, bytes),
+        _ => make_change(alloc, state, call),
     }
 }

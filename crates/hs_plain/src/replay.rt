@@ -3,14 +3,14 @@ ghost use Rattle.std.specs.Prelude.{◌≡◌, ◌+◌, ◌<◌, ◌≤◌, ◌^
 ghost use Rattle.std.specs.FinMap.Entries.{is_sorted};
 ghost use Rattle.hs_plain.specs.Tree.{path_cmp};
 ghost use Rattle.hs_plain.specs.State.{start as plain_start};
-ghost use Rattle.hs_plain.specs.Answer.{is_exclusive as is_plain_exclusive};
+ghost use Rattle.hs_plain.specs.Answer.{is_modifying as is_plain_modifying};
+ghost use Rattle.hs_plain.specs.Files.{plain_files};
 ghost use Rattle.hs_plain.specs.Change.{changed_if, after as plain_after_entry};
 ghost use Rattle.hs_plain.specs.Faults.{is_answered as is_plain_answered};
 ghost use Rattle.hs_plain.specs.Replay.{plain_after};
 
-use crate::answer::is_exclusive;
-use crate::change::make_change;
-use crate::files::FileBody;
+use crate::answer::is_modifying;
+use crate::change::make_plain_change;
 use crate::resolve::AskFault;
 use crate::state::{Body, Node, PlainState, State};
 use hs_types::{Call, Entry, EntryKind, InodeId, List, Mode, NoMemory, Reply};
@@ -50,23 +50,19 @@ fn is_answered(made: Result<Reply, AskFault>) -> bool
 
 #[tactic(auto, using(crate::proofs::Refusals::answered_change))]
 /// Makes a call's change, where it isn't refused. Without memory the state is of no use.
-fn make_accepted<B: FileBody>(
-    alloc: Global,
-    state: &mut State<B>,
-    call: &Call,
-) -> Result<(), NoMemory>
+fn make_accepted(alloc: Global, state: &mut PlainState, call: &Call) -> Result<(), NoMemory>
     requires ticks { state.old.tick + 1 < 2 ^ 64 }
     requires inodes { state.old.next_inode + 1 < 2 ^ 64 }
     requires sorted { is_sorted path_cmp state.old.tree ≡ true }
-    ensures changed { OnOk result (state.new ≡ changed_if (is_plain_exclusive call.now) B.files state.old call.now) }
+    ensures changed { OnOk result (state.new ≡ changed_if (is_plain_modifying call.now) plain_files state.old call.now) }
     ensures inodes { OnOk result (state.new.next_inode ≤ state.old.next_inode + 1) }
     ensures tick { OnOk result (state.new.tick ≡ state.old.tick) }
     ensures sorted { OnOk result (is_sorted path_cmp state.new.tree ≡ true) }
 {
-    if !is_exclusive(call) {
+    if !is_modifying(call) {
         return Ok(());
     }
-    if is_answered(make_change(alloc, state, call)) {
+    if is_answered(make_plain_change(alloc, state, call)) {
         Ok(())
     } else {
         Err(NoMemory)
@@ -74,11 +70,11 @@ fn make_accepted<B: FileBody>(
 }
 
 /// Changes a state as an entry of the journal does. Without memory the state is of no use.
-fn apply<B: FileBody>(alloc: Global, state: &mut State<B>, entry: &Entry) -> Result<(), NoMemory>
+fn apply(alloc: Global, state: &mut PlainState, entry: &Entry) -> Result<(), NoMemory>
     requires ticks { state.old.tick + 1 < 2 ^ 64 }
     requires inodes { state.old.next_inode + 1 < 2 ^ 64 }
     requires sorted { is_sorted path_cmp state.old.tree ≡ true }
-    ensures after { OnOk result (state.new ≡ plain_after_entry B.files state.old entry.now) }
+    ensures after { OnOk result (state.new ≡ plain_after_entry plain_files state.old entry.now) }
     ensures inodes { OnOk result (state.new.next_inode ≤ state.old.next_inode + 1) }
     ensures tick { OnOk result (state.new.tick ≡ state.old.tick + 1) }
     ensures sorted { OnOk result (is_sorted path_cmp state.new.tree ≡ true) }

@@ -3,9 +3,10 @@ ghost use Rattle.std.specs.Prelude.{◌≡◌, ◌++◌, ◌≤◌, length, Ok, 
 ghost use Rattle.std.specs.List.{list_any, prefix_len};
 ghost use Rattle.hs_plain.specs.Faults.{IsFaultOf};
 ghost use Rattle.hs_plain.specs.State.{same_inode, is_snapshottable as is_plain_snapshottable, snapshot_root as plain_snapshot_root, member_named as plain_member_named, member_with as plain_member_with, resolve as plain_resolve, place_of as plain_place_of, items_of as plain_items_of, items_at as plain_items_at, with_item as plain_with_item, is_lesser, snapshot_items as plain_snapshot_items};
+ghost use Rattle.hs_plain.specs.Answer.{file_in as plain_file_in, file_there as plain_file_there, file_at as plain_file_at, is_live as is_plain_live, is_gone as is_plain_gone};
 ghost use Rattle.hs_plain.specs.declared.resolve.AskFault.TheVariants.{Refused as fault_refused, NoMemory as fault_no_memory};
 
-use crate::state::{Member, Node, State};
+use crate::state::{Body, Member, Node, State};
 use crate::tree::{listing, node_at, place_of, walk};
 use hs_types::{
     Duplicate, InodeId, Item, List, Name, NoMemory, Path, PathTail, Place, Refusal, RelPath, SnapId,
@@ -187,6 +188,62 @@ pub fn items_at<B>(alloc: Global, state: &State<B>, place: Place) -> Result<List
                 return Err(AskFault::Refused(Refusal::NotFound));
             }
             Ok(snapshot_items(alloc, state.members.items(), directory)?)
+        }
+    }
+}
+
+/// What stands for a file's bytes; a directory is no file.
+pub fn file_in<B>(body: &Body<B>) -> Result<&B, Refusal>
+    ensures { MatchResult result (λ file. plain_file_in body.now ≡ Ok file.now) (λ why. plain_file_in body.now ≡ Err why) }
+{
+    match body {
+        Body::File(file) => Ok(file),
+        Body::Dir => Err(Refusal::NotFile),
+    }
+}
+
+/// The file with this id.
+fn file_of<B>(tree: &[(RelPath, Node<B>)], id: InodeId) -> Result<&B, Refusal>
+    ensures { MatchResult result (λ file. plain_file_there (plain_place_of tree.now id) ≡ Ok file.now) (λ why. plain_file_there (plain_place_of tree.now id) ≡ Err why) }
+{
+    match place_of(tree, id) {
+        Some(place) => file_in(&place.1.body),
+        None => Err(Refusal::NotFound),
+    }
+}
+
+/// The file at a place; a list of snapshots is none.
+pub fn file_at<B>(state: &State<B>, place: Place) -> Result<&B, Refusal>
+    ensures { MatchResult result (λ file. plain_file_at state.now place ≡ Ok file.now) (λ why. plain_file_at state.now place ≡ Err why) }
+{
+    match place {
+        Place::Live(id) => file_of(state.tree.items(), id),
+        Place::Frozen(id, snapshot) => {
+            let member = member_with(state.members.items(), snapshot)?;
+            file_of(member.tree.items(), id)
+        }
+        Place::SnapshotsOf(directory) if is_snapshottable(state, directory) => {
+            Err(Refusal::NotFile)
+        }
+        Place::SnapshotsOf(_) => Err(Refusal::NotFound),
+    }
+}
+
+/// Whether a snapshot has this id.
+fn is_live<B>(members: &[Member<B>], snapshot: SnapId) -> bool
+    ensures { result ≡ is_plain_live members.now snapshot }
+{
+    members.iter().any(|member| member.snapshot == snapshot)
+}
+
+/// Whether a place lies in a snapshot that isn't there any more. No snapshot has the id 0.
+pub fn is_gone<B>(state: &State<B>, place: Place) -> bool
+    ensures { result ≡ is_plain_gone state.now place }
+{
+    match place {
+        Place::Live(_) | Place::SnapshotsOf(_) => false,
+        Place::Frozen(_, snapshot) => {
+            snapshot != SnapId(0) && !is_live(state.members.items(), snapshot)
         }
     }
 }

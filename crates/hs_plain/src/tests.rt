@@ -1,3 +1,4 @@
+mod bytes;
 mod live;
 
 use crate::answer::answer_of;
@@ -5,8 +6,8 @@ use crate::lines::lines_of;
 use crate::replay::replay;
 use crate::state::{Body, Member, Node, PlainState, State, Tree};
 use hs_types::{
-    Call, CallerId, Entry, EntryKind, InodeId, Item, List, ListCursor, Mode, Name, NameText,
-    PageSize, PathText, Place, Refusal, RelPath, Reply, SnapId, TreeLine,
+    Call, CallerId, Chunk, Entry, EntryKind, InodeId, Item, List, ListCursor, Mode, Name, NameText,
+    PageSize, PathText, Place, ReadCursor, ReadLen, Refusal, RelPath, Reply, SnapId, TreeLine,
 };
 use std::alloc::Global;
 use std::test::Fail;
@@ -25,6 +26,11 @@ fn rel_path(alloc: Global, names: &[&str]) -> Result<RelPath, Fail> {
         path.push(name(alloc, text)?)?;
     }
     Ok(path)
+}
+
+fn chunk(alloc: Global, text: &str) -> Result<Chunk, Fail> {
+    let bytes = String::from_str(alloc, text)?.into_bytes();
+    Ok(Chunk::new(bytes).ok().ok_or("more than a chunk")?)
 }
 
 fn mkdir(alloc: Global, path: &str) -> Result<Call, Fail> {
