@@ -1,5 +1,5 @@
 -- What an append makes of a file's blocks.
-use Rattle.std.specs.Prelude.{◌≡◌, ℕ, ◌+◌, ◌-◌, ◌*◌, ◌<◌, ◌≤◌, Bool, true, false, List, [], ◌∷◌, ◌++◌, length, take, IsSome}
+use Rattle.std.specs.Prelude.{◌≡◌, ℕ, ◌+◌, ◌-◌, ◌*◌, ◌<◌, ◌≤◌, ◌==◌, nat_lt, Bool, true, false, ◌&&◌, ◌||◌, List, [], ◌∷◌, ◌++◌, length, take, is_some, IsSome}
 use Rattle.std.specs.List.{AllByRecursion}
 use Rattle.hs_types.specs.Blocks.{BlockMap, HoldsFile, file_bytes, find, bytes_of, same_block, block_size}
 use Rattle.hs_types.specs.declared.ids.BlockId.{BlockId}
@@ -45,3 +45,11 @@ AreMade low high (block ∷ next ∷ more) = ⊥
 -- the list has got the blocks that were made, at its end
 abbrev pub Adds : ℕ → ℕ → List BlockId → List BlockId → Type 0
 Adds low high before now = (made : List BlockId) × (now ≡ before ++ made) × AreMade low high made
+
+-- the same blocks are there
+abbrev pub SameBlocks : BlockMap → BlockMap → Type 0
+SameBlocks before now = (block : BlockId) → is_some (find now block) ≡ is_some (find before block)
+
+-- the blocks that are there are those that were, and the one that was made, if the greatest number rose from low to high
+abbrev pub MakesOnly : ℕ → ℕ → BlockMap → BlockMap → Type 0
+MakesOnly low high before now = (block : BlockId) → is_some (find now block) ≡ (is_some (find before block) || (nat_lt low block.0 && block.0 == high))

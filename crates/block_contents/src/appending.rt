@@ -4,7 +4,7 @@ ghost use Rattle.std.specs.Vec.{vec_len, vec_capacity};
 ghost use Rattle.hs_types.specs.Blocks.{IsFile, HoldsFile, block_size, blocks_for};
 ghost use Rattle.block_store.specs.Changes.{Changes};
 ghost use Rattle.block_store.specs.Faults.{Rose};
-ghost use Rattle.block_contents.specs.Contents.{Appended, KeepsFile, KeepsAll, Adds, AtMost};
+ghost use Rattle.block_contents.specs.Contents.{Appended, KeepsFile, KeepsAll, SameBlocks, MakesOnly, Adds, AtMost};
 
 use crate::BLOCK_SIZE;
 use block_store::{BlockStore, StoreErr};
@@ -28,6 +28,7 @@ pub fn append<B: BlockStore>(
     ensures file { OnOk result (IsFile (size + length bytes.now) blocks.new) }
     ensures appended { OnOk result (Changes (B.blocks store.old) (B.blocks store.new) (Appended size blocks.old blocks.new bytes.now)) }
     ensures kept { Changes (B.blocks store.old) (B.blocks store.new) (KeepsFile size blocks.old) }
+    ensures only { Changes (B.blocks store.old) (B.blocks store.new) (MakesOnly (B.greatest store.old) (B.greatest store.new)) }
     ensures made { OnOk result (Adds (B.greatest store.old) (B.greatest store.new) blocks.old blocks.new) }
     ensures list { OnErr result (blocks.new ≡ blocks.old) }
     ensures spare { OnOk result (spare.new ≡ spare.old) }
@@ -66,6 +67,7 @@ fn append_all<B: BlockStore>(
     ensures file { OnOk result (IsFile (size + length bytes.now) blocks.new.items) }
     ensures appended { OnOk result (Changes (B.blocks store.old) (B.blocks store.new) (Appended size blocks.old.items blocks.new.items bytes.now)) }
     ensures kept { Changes (B.blocks store.old) (B.blocks store.new) (KeepsFile size blocks.old.items) }
+    ensures only { Changes (B.blocks store.old) (B.blocks store.new) (MakesOnly (B.greatest store.old) (B.greatest store.new)) }
     ensures made { OnOk result (Adds (B.greatest store.old) (B.greatest store.new) blocks.old.items blocks.new.items) }
     ensures list { OnErr result (blocks.new.items ≡ blocks.old.items) }
     ensures spare { OnOk result (spare.new.items ≡ spare.old.items) }
@@ -113,6 +115,7 @@ fn fill_last<B: BlockStore>(
     requires fits { size + length bytes.now ≤ length blocks.now * block_size }
     ensures appended { OnOk result (Changes (B.blocks store.old) (B.blocks store.new) (Appended size blocks.now blocks.now bytes.now)) }
     ensures kept { Changes (B.blocks store.old) (B.blocks store.new) (KeepsFile size blocks.now) }
+    ensures same { Changes (B.blocks store.old) (B.blocks store.new) SameBlocks }
     ensures greatest { B.greatest store.new ≡ B.greatest store.old }
     ensures count { B.faults store.old ≤ B.faults store.new }
     ensures cause { IsErrOf result StoreErr.Failed → Rose (B.faults store.old) (B.faults store.new) }
@@ -142,6 +145,7 @@ fn add_block<B: BlockStore>(
     ensures file { OnOk result (IsFile (size + length bytes.now) blocks.new.items) }
     ensures appended { OnOk result (Changes (B.blocks store.old) (B.blocks store.new) (Appended size blocks.old.items blocks.new.items bytes.now)) }
     ensures kept { Changes (B.blocks store.old) (B.blocks store.new) KeepsAll }
+    ensures only { Changes (B.blocks store.old) (B.blocks store.new) (MakesOnly (B.greatest store.old) (B.greatest store.new)) }
     ensures made { OnOk result (Adds (B.greatest store.old) (B.greatest store.new) blocks.old.items blocks.new.items) }
     ensures list { OnErr result (blocks.new.items ≡ blocks.old.items) }
     ensures spare { OnOk result (spare.new.items ≡ spare.old.items) }

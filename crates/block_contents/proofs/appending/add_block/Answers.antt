@@ -26,6 +26,4 @@ returns-in-Ok-clause-known g c =
     (at_most_push (g.B.BlockStore.greatest c.args.store.now) (g.B.BlockStore.greatest c.write_at.new.self) c.args.blocks.now.items c.in_ok-block.block more most c.requires.known)
 
 pub returns-in-Err-clause-known : goal.returns-in-Err-clause-known
-returns-in-Err-clause-known g c =
-    let more : g.B.BlockStore.greatest c.args.store.now ≤ g.B.BlockStore.greatest c.write_at.new.self = omega (arith, c.in_ok-block.ensures.greatest, c.in_ok-block.ensures.above, c.write_at.ensures.greatest) in
-    at_most_more (g.B.BlockStore.greatest c.args.store.now) (g.B.BlockStore.greatest c.write_at.new.self) c.args.blocks.now.items more c.requires.known
+returns-in-Err-clause-known g c = at_most_more (g.B.BlockStore.greatest c.args.store.now) _ c.args.blocks.now.items (grind arith) c.requires.known
