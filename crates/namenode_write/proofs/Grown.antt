@@ -1,51 +1,51 @@
 -- A namenode stays consistent as its journal grows.
-use Rattle.std.proofs.Common.{◌≡◌, ℕ, ◌+◌, ◌-◌, Some, None, Ok, Err, slice_get, ◌≤◌, Bool, true, false, ◌&&◌, List, [], ◌∷◌, ◌++◌, map, take, length, refl, ap, sym, subst, ◌∙◌, length-append, arith}
-use Rattle.std.proofs.lemmas.List.{length-map, take_all}
+use Rattle.std.proofs.Common.{◌≡◌, ℕ, ◌+◌, ◌-◌, ◌^◌, ◌<◌, ◌≤◌, Some, None, Option, Ok, Err, Result, slice_get, is_some, Bool, true, false, not, cond, if◌then◌else◌, ◌&&◌, ◌||◌, ◌==◌, List, [], ◌∷◌, ◌++◌, map, take, length, refl, ap, sym, subst, ◌∙◌, length-append, arith}
+use Rattle.std.specs.Prelude.{IfOk, IfErr, OnErr, IsErrOf, min}
+use Rattle.std.proofs.lemmas.List.Sums.{count_by-le-length, sum_by-append}
 use Rattle.std.proofs.Math.Seq.{take-append_seam}
-use Rattle.std.specs.List.{list_all}
-use Rattle.std.specs.FinMap.Entries.{is_sorted}
 use Rattle.hs_types.specs.Names.{Names}
+use Rattle.hs_types.specs.Blocks.{BlockMap}
+use Rattle.hs_types.specs.Refusals.{number_of}
+use Rattle.hs_types.specs.declared.ids.CallerId.{CallerId}
+use Rattle.hs_types.specs.declared.ids.BlockId.{BlockId}
+use Rattle.hs_types.specs.declared.call.Call.{Call}
 use Rattle.hs_types.specs.declared.call.Reply.{Reply}
 use Rattle.hs_types.specs.declared.call.Reply.TheVariants as replies
+use Rattle.hs_types.specs.declared.call.Refusal.{Refusal}
+use Rattle.hs_types.specs.declared.call.Refusal.TheVariants.{StoreFault}
+use Rattle.hs_types.specs.declared.call.Refusal.TheVariants as refusals
+use Rattle.hs_types.specs.declared.call.EntryKind.TheVariants.{Accepted, Faulted}
+use Rattle.hs_types.specs.declared.call.Entry.{Entry}
+use Rattle.hs_types.specs.declared.call.Answered.{Answered}
 use Rattle.hs_types.specs.declared.call.Item.{Item}
 use Rattle.hs_types.specs.declared.call.TreeLine.{TreeLine}
-use Rattle.hs_types.specs.declared.ids.CallerId.{CallerId}
-use Rattle.hs_types.specs.declared.call.Call.{Call}
-use Rattle.hs_types.specs.declared.call.Call.TheVariants as calls
-use Rattle.hs_types.specs.declared.call.Entry.{Entry}
 use Rattle.hs_plain.specs.declared.state.State.{State}
 use Rattle.hs_plain.specs.declared.state.FileBlocks.{FileBlocks}
-use Rattle.hs_plain.specs.Asked.{Asked}
-use Rattle.hs_plain.specs.Files.{Files, plain_files, block_files}
-use Rattle.hs_plain.specs.Answer.{answer, answer_by, asked, told, replied, mkdir_at, create_at, delete_at, rename_at, set_mode_at, made_reply, is_modifying, is_ok_reply}
-use Rattle.hs_plain.specs.Change.{change, changed_if, ticked, after, made_dir, made_file, removed, renamed, with_mode}
-use Rattle.hs_plain.specs.Replay.{replay_from, proper_from, may_follow, plain_after, is_proper}
-use Rattle.hs_plain.specs.State.{start}
-use Rattle.hs_plain.specs.Valid.{IsSorted}
-use Rattle.hs_plain.specs.Legal.{accepted_entry, IsLegalCall, leaves_entry, is_plain_reply}
-use Rattle.hs_plain.specs.Faults.{IsFaultOf, told_reply}
 use Rattle.hs_plain.specs.declared.resolve.AskFault.{AskFault}
 use Rattle.hs_plain.specs.declared.resolve.AskFault.TheVariants.{Refused, NoMemory}
-use Rattle.hs_plain.specs.Lines.{tree_line, lines_of, tree_lines, counts_of}
-use Rattle.hs_plain.specs.Tree.{Tree, path_cmp, is_dir_body, size_of}
-use Rattle.hs_plain.specs.declared.state.Member.{Member}
 use Rattle.hs_plain.specs.declared.state.Node.{Node}
 use Rattle.hs_plain.specs.declared.state.Body.{Body}
 use Rattle.hs_plain.specs.declared.state.Body.TheVariants.{File, Dir}
-use Rattle.hs_plain.specs.Viewed.{viewed, viewed_tree, viewed_place, viewed_body, viewed_member, KeepsSizes, StandsFor}
-use Rattle.hs_plain.proofs.ValidTrees.{sorted-change, if_asked-keeps}
-use Rattle.hs_plain.proofs.Stands.{zeros, zeros_keep, answer_stands}
+use Rattle.hs_plain.specs.Files.{Files, plain_files}
+use Rattle.hs_plain.specs.Faults.{told_reply}
+use Rattle.hs_plain.specs.Answer.{answer, blanked, claimed, is_modifying, is_ok_reply, uses_store}
+use Rattle.hs_plain.specs.Change.{changed_if, is_accepted, ticked, after}
+use Rattle.hs_plain.specs.Replay.{replay_from, proper_from, fits_kind, may_follow, plain_after, is_proper}
+use Rattle.hs_plain.specs.State.{start}
+use Rattle.hs_plain.specs.Valid.{IsLive}
+use Rattle.hs_plain.specs.Viewed.{StandsFor, viewed, viewed_tree, viewed_place, viewed_body, bytes_in}
+use Rattle.hs_plain.specs.Legal.{IsLegalCall, entry_of, kind_of, leaves_entry, is_store_fault, is_plain_reply}
+use Rattle.hs_plain.specs.Tree.{Tree, is_dir_body, size_of}
+use Rattle.hs_plain.specs.Lines.{tree_line, lines_of, tree_lines}
+use Rattle.hs_plain.proofs.Validity as valid
 use Rattle.hs_plain.proofs.Viewed.{listing-viewed}
-use Rattle.hs_plain.proofs.ViewedChange.{change-viewed}
-use Rattle.namenode_write.specs.Consistent.{IsConsistent}
+use Rattle.block_store.specs.Changes.{Changes}
+use Rattle.block_store.specs.Faults.{Rose}
+use Rattle.namenode_write.specs.Kept.{SameBytes}
+use Rattle.namenode_write.specs.Made.{IsPlain, IsMade, IsCause, IsRefusal, next}
+use Rattle.namenode_write.specs.Consistent.{IsConsistent, IsKept, is_faulted, fault_count}
 
-no_bytes : (bytes : List ℕ) → length bytes ≡ 0 → bytes ≡ []
-no_bytes [] none = refl
-no_bytes (byte ∷ bytes) none = absurd (omega arith)
-
--- a file without blocks reads as one without bytes
-empty_reads : (read : FileBlocks → List ℕ) → KeepsSizes read → read block_files.empty ≡ plain_files.empty
-empty_reads read sizes = no_bytes (read block_files.empty) (sizes block_files.empty)
+-- ---- journals that are one longer
 
 replay_from-push : {B : Type 0} (files : Files B) (state : State B) (entries : List Entry) (entry : Entry) → replay_from files state (entries ++ entry ∷ []) ≡ after files (replay_from files state entries) entry
 replay_from-push files state [] entry = refl
@@ -59,6 +59,10 @@ and_false : (a : Bool) → (a && false) ≡ false
 and_false true = refl
 and_false false = refl
 
+or_false : (a : Bool) → (a || false) ≡ a
+or_false true = refl
+or_false false = refl
+
 and_assoc : (a b c : Bool) → (a && (b && c)) ≡ (a && b && c)
 and_assoc true b c = refl
 and_assoc false b c = refl
@@ -69,80 +73,210 @@ proper_from-push state (e ∷ entries) entry =
     ap (λ b. may_follow state e && b) (proper_from-push (after plain_files state e) entries entry)
     ∙ and_assoc (may_follow state e) (proper_from (after plain_files state e) entries) (may_follow (replay_from plain_files (after plain_files state e) entries) entry)
 
--- no call changes a snapshot
-members-kept : {B : Type 0} (files : Files B) (state : State B) (call : Call) → (change files state call).members ≡ state.members
-members-kept {B} files state (calls.Mkdir path) = if_asked-keeps (λ (s : State B). s.members ≡ state.members) (made_dir state) state (mkdir_at state path) refl (λ x is. refl)
-members-kept {B} files state (calls.Create path over) = if_asked-keeps (λ (s : State B). s.members ≡ state.members) (made_file files state) state (create_at state path over) refl (λ x is. refl)
-members-kept {B} files state (calls.Delete path recursive) = if_asked-keeps (λ (s : State B). s.members ≡ state.members) (removed state) state (delete_at state path recursive) refl (λ x is. refl)
-members-kept {B} files state (calls.Rename old new) = if_asked-keeps (λ (s : State B). s.members ≡ state.members) (renamed state) state (rename_at state old new) refl (λ x is. refl)
-members-kept {B} files state (calls.SetMode path mode) = if_asked-keeps (λ (s : State B). s.members ≡ state.members) (with_mode state mode) state (set_mode_at state path) refl (λ x is. refl)
-members-kept files state (calls.Stat path) = refl
-members-kept files state (calls.List path size) = refl
+fault_count-push : (entries : List Entry) (entry : Entry) → fault_count (entries ++ entry ∷ []) ≡ fault_count entries + fault_count (entry ∷ [])
+fault_count-push entries entry = sum_by-append (λ entry. cond (is_faulted entry.kind) 1 0) entries (entry ∷ [])
 
-orders-kept : {B : Type 0} (files : Files B) (state : State B) (call : Call) → IsSorted state → IsSorted (ticked (change files state call))
-orders-kept {B} files state call sorted = record {
-  live = sorted-change files state call sorted.live;
-  copies = ap (λ (members : List (Member B)). list_all (λ member. is_sorted path_cmp member.tree) members) (members-kept files state call) ∙ sorted.copies;
+-- an entry adds at most one to the count of faults
+fault_count-more : (entries : List Entry) (entry : Entry) → fault_count (entries ++ entry ∷ []) ≤ fault_count entries + 1
+fault_count-more entries entry = omega (arith, fault_count-push entries entry, count_by-le-length (λ entry. is_faulted entry.kind) (entry ∷ []))
+
+-- and an accepted one adds none
+fault_count-accepted : (entries : List Entry) (entry : Entry) → is_faulted entry.kind ≡ false → fault_count (entries ++ entry ∷ []) ≡ fault_count entries
+fault_count-accepted entries entry accepted =
+    let none : fault_count (entry ∷ []) ≡ 0 = ap (λ b. 0 + cond b 1 0) accepted in
+    omega (arith, fault_count-push entries entry)
+
+-- ---- the tick
+
+ticked-plain : (told : Option BlockMap) (state : State FileBlocks) (plain : State (List ℕ)) → IsPlain told state plain → IsPlain told (ticked state) (ticked plain)
+ticked-plain None state plain is = record { stands = ap ticked is.stands; bytes = tt }
+ticked-plain (Some map) state plain is = record { stands = ap ticked is.stands; bytes = ap ticked is.bytes }
+
+ticked-live : (state : State FileBlocks) → IsLive state → IsLive (ticked state)
+ticked-live state live =
+    let k = valid.kept_so state live in
+    valid.live_from (ticked state) (record { sorted = k.sorted; tree = k.tree; next_snapshot_above = k.next_snapshot_above; none_snapshottable = k.none_snapshottable; no_snapshots = k.no_snapshots })
+
+ticked-kept : (told : Option BlockMap) (greatest : ℕ) (state : State FileBlocks) (waiting : List BlockId) → IsKept told greatest state waiting → IsKept told greatest (ticked state) waiting
+ticked-kept told greatest state waiting kept = record {
+  sorted = record { live = kept.sorted.live; copies = kept.sorted.copies };
+  blocks = kept.blocks;
+  no_snapshots = kept.no_snapshots;
+  live = ticked-live state kept.live;
 }
 
--- an accepted call leads on, and its entry may follow
-pub grown : (state new : State FileBlocks) (journal longer : List Entry) (caller : CallerId) (seq : ℕ) (call : Call) →
-    IsConsistent state journal → longer ≡ journal ++ accepted_entry caller seq call ∷ [] →
-    is_modifying call ≡ true → is_ok_reply (answer_by block_files state call) ≡ true → new ≡ ticked (change block_files state call) → new.tick ≡ state.tick + 1 → new.next_inode ≤ state.next_inode + 1 →
-    IsConsistent new longer
-grown state new journal longer caller seq call kept grows modifying ok steps tick inodes =
-    let entry = accepted_entry caller seq call in
+-- ---- what a call makes of the plain state
+
+ok_no_fault : (reply : Reply) → is_ok_reply reply ≡ true → is_store_fault reply ≡ false
+ok_no_fault (replies.Made id) ok = refl
+ok_no_fault replies.Done ok = refl
+ok_no_fault (replies.Bytes bytes at) ok = refl
+ok_no_fault (replies.Stat id is_dir mode stamp size) ok = refl
+ok_no_fault (replies.Page items at) ok = refl
+ok_no_fault (replies.Refused why) ok = absurd (cc)
+ok_no_fault replies.NoMemory ok = refl
+
+-- the state is as before, and so are the bytes that its files have
+same_plain : (before now : Option BlockMap) (old new : State FileBlocks) (plain : State (List ℕ)) → new ≡ old → Changes before now (SameBytes old) → IsPlain before old plain → IsPlain now new plain
+same_plain None None old new plain same changes is = record { stands = ap (λ (s : State FileBlocks). viewed (λ file. file.size) s) same ∙ is.stands; bytes = tt }
+same_plain None (Some now) old new plain same changes is = absurd changes
+same_plain (Some before) None old new plain same changes is = absurd changes
+same_plain (Some before) (Some now) old new plain same changes is = record {
+  stands = ap (λ (s : State FileBlocks). viewed (λ file. file.size) s) same ∙ is.stands;
+  bytes = ap (λ (s : State FileBlocks). viewed (bytes_in now) s) same ∙ changes ∙ is.bytes;
+}
+
+-- what holds of a call that was made or not, in a state that stood for a plain one
+pub record IsDone (before now : Option BlockMap) (new : State FileBlocks) (caller : CallerId) (seq : ℕ) (call : Call) (reply : Reply) (plain : State (List ℕ)) : Type 0 where
+  pub answered : is_plain_reply reply ≡ true → claimed (is_some before) reply ≡ claimed (is_some before) (answer plain call)
+  pub follows : leaves_entry call reply ≡ true → may_follow plain (entry_of caller seq call reply) ≡ true
+  pub entered : leaves_entry call reply ≡ true → IsPlain now (ticked new) (after plain_files plain (entry_of caller seq call reply))
+  pub unchanged : leaves_entry call reply ≡ false → IsPlain now new plain
+  pub faulted : is_store_fault reply ≡ true → (uses_store call ≡ true) × (is_ok_reply (answer plain call) ≡ true)
+
+ok-blanked : (reply : Reply) → is_ok_reply (blanked reply) ≡ is_ok_reply reply
+ok-blanked (replies.Made id) = refl
+ok-blanked replies.Done = refl
+ok-blanked (replies.Bytes bytes at) = refl
+ok-blanked (replies.Stat id is_dir mode stamp size) = refl
+ok-blanked (replies.Page items at) = refl
+ok-blanked (replies.Refused why) = refl
+ok-blanked replies.NoMemory = refl
+
+ok-claimed : (tells : Bool) (reply : Reply) → is_ok_reply (claimed tells reply) ≡ is_ok_reply reply
+ok-claimed true reply = refl
+ok-claimed false reply = ok-blanked reply
+
+-- whether an Ok reply leaves an entry
+leaves_ok : (call : Call) (reply : Reply) → is_ok_reply reply ≡ true → leaves_entry call reply ≡ is_modifying call
+leaves_ok call reply ok =
+    ap (λ b. b || (is_modifying call && is_ok_reply reply)) (ok_no_fault reply ok)
+    ∙ ap (λ b. is_modifying call && b) ok
+    ∙ and_true (is_modifying call)
+
+done_made : (before now : Option BlockMap) (new : State FileBlocks) (caller : CallerId) (seq : ℕ) (call : Call) (reply : Reply) (plain : State (List ℕ)) → IsMade before now new call reply plain → IsDone before now new caller seq call reply plain
+done_made before now new caller seq call reply plain made =
+    let no_fault : is_store_fault reply ≡ false = ok_no_fault reply made.ok in
+    let leaves : leaves_entry call reply ≡ is_modifying call = leaves_ok call reply made.ok in
+    let ok : is_ok_reply (answer plain call) ≡ true =
+    sym (ok-claimed (is_some before) (answer plain call)) ∙ ap is_ok_reply (sym made.told) ∙ ok-claimed (is_some before) reply ∙ made.ok in
+    let effective : is_modifying call ≡ (is_accepted (kind_of reply) && is_modifying call) =
+    ap (λ b. is_accepted (if b then Faulted else Accepted) && is_modifying call) (sym no_fault) in
+    record {
+      answered = λ _. made.told;
+      follows = λ left.
+          ap (λ b. fits_kind (if b then Faulted else Accepted) call && is_ok_reply (answer plain call)) no_fault
+          ∙ ap (λ b. b && is_ok_reply (answer plain call)) (sym leaves ∙ left)
+          ∙ ok;
+      entered = λ left. subst (λ b. IsPlain now (ticked new) (ticked (changed_if b plain_files plain call))) effective (ticked-plain now new (next plain call) made.plain_next);
+      unchanged = λ none. subst (λ b. IsPlain now new (changed_if b plain_files plain call)) (sym leaves ∙ none) made.plain_next;
+      faulted = λ fault. absurd (cc);
+    }
+
+refused_leaves : (call : Call) (why : Refusal) → leaves_entry call (replies.Refused why) ≡ (number_of why == 23)
+refused_leaves call why = ap (λ b. (number_of why == 23) || b) (and_false (is_modifying call)) ∙ or_false (number_of why == 23)
+
+done_refused : (is_fault : Bool) (before now : Option BlockMap) (new : State FileBlocks) (caller : CallerId) (seq : ℕ) (call : Call) (why : Refusal) (plain : State (List ℕ)) → (number_of why == 23) ≡ is_fault →
+    IsRefusal is_fault plain call why → IsPlain now new plain → IsDone before now new caller seq call (replies.Refused why) plain
+done_refused true before now new caller seq call why plain is cause same = record {
+  answered = λ plain_one. absurd (cc (ap not is));
+  follows = λ left.
+      ap (λ b. fits_kind (if b then Faulted else Accepted) call && is_ok_reply (answer plain call)) is
+      ∙ ap (λ b. b && is_ok_reply (answer plain call)) cause.0
+      ∙ cause.1;
+  entered = λ left. subst (λ b. IsPlain now (ticked new) (ticked (changed_if (is_accepted (if b then Faulted else Accepted) && is_modifying call) plain_files plain call))) (sym is) (ticked-plain now new plain same);
+  unchanged = λ none. same;
+  faulted = λ fault. cause;
+}
+done_refused false before now new caller seq call why plain is cause same = record {
+  answered = λ plain_one. ap (claimed (is_some before)) (sym cause);
+  follows = λ left. absurd (cc (refused_leaves call why, left));
+  entered = λ left. absurd (cc (refused_leaves call why, left));
+  unchanged = λ none. same;
+  faulted = λ fault. absurd (cc);
+}
+
+done_without_memory : (before now : Option BlockMap) (new : State FileBlocks) (caller : CallerId) (seq : ℕ) (call : Call) (plain : State (List ℕ)) → IsPlain now new plain → IsDone before now new caller seq call replies.NoMemory plain
+done_without_memory before now new caller seq call plain same = record {
+  answered = λ plain_one. absurd (cc);
+  follows = λ left. absurd (cc (and_false (is_modifying call), left));
+  entered = λ left. absurd (cc (and_false (is_modifying call), left));
+  unchanged = λ none. same;
+  faulted = λ fault. absurd (cc);
+}
+
+-- what the contract of a call says, told of its reply
+pub done : (before now : Option BlockMap) (old new : State FileBlocks) (caller : CallerId) (seq : ℕ) (call : Call) (result : Result Reply AskFault) (reply : Reply) (plain : State (List ℕ)) → IsPlain before old plain → reply ≡ told_reply result →
+    IfOk result (λ reply. (plain : State (List ℕ)) → IsPlain before old plain → IsMade before now new call reply plain) →
+    IfErr result (λ fault. (plain : State (List ℕ)) → IsPlain before old plain → IsCause plain call fault) →
+    OnErr result (new ≡ old) → OnErr result (Changes before now (SameBytes old)) →
+    IsDone before now new caller seq call reply plain
+done before now old new caller seq call (Ok given) reply plain is tells made cause same changes = subst (λ r. IsDone before now new caller seq call r plain) (sym tells) (done_made before now new caller seq call given plain (made plain is))
+done before now old new caller seq call (Err (Refused why)) reply plain is tells made cause same changes =
+    subst (λ r. IsDone before now new caller seq call r plain) (sym tells) (done_refused (number_of why == 23) before now new caller seq call why plain refl (cause plain is) (same_plain before now old new plain same changes is))
+done before now old new caller seq call (Err NoMemory) reply plain is tells made cause same changes =
+    subst (λ r. IsDone before now new caller seq call r plain) (sym tells) (done_without_memory before now new caller seq call plain (same_plain before now old new plain same changes is))
+
+-- ---- faults of the store
+
+is_fault : (why : Refusal) → (number_of why == 23) ≡ true → why ≡ StoreFault
+is_fault refusals.BadPath so = absurd (cc)
+is_fault refusals.TooLong so = absurd (cc)
+is_fault refusals.TooDeep so = absurd (cc)
+is_fault refusals.Reserved so = absurd (cc)
+is_fault refusals.ReadOnly so = absurd (cc)
+is_fault refusals.NotFound so = absurd (cc)
+is_fault refusals.NotDir so = absurd (cc)
+is_fault refusals.NotFile so = absurd (cc)
+is_fault refusals.Exists so = absurd (cc)
+is_fault refusals.IsRoot so = absurd (cc)
+is_fault refusals.NotEmpty so = absurd (cc)
+is_fault refusals.IntoItself so = absurd (cc)
+is_fault refusals.Gone so = absurd (cc)
+is_fault StoreFault so = refl
+
+-- a reply with a fault of the store comes of a fault of the store
+pub rose : (before now : ℕ) (result : Result Reply AskFault) (reply : Reply) → reply ≡ told_reply result → IfOk result (λ reply. is_ok_reply reply ≡ true) → (IsErrOf result (Refused StoreFault) → Rose before now) → is_store_fault reply ≡ true → Rose before now
+rose before now (Ok given) reply tells ok cause fault = absurd (cc (ok_no_fault given ok, ap is_store_fault tells))
+rose before now (Err (Refused why)) reply tells ok cause fault = cause (ap (λ (why : Refusal). Err (Refused why)) (is_fault why (sym (ap is_store_fault tells) ∙ fault)))
+rose before now (Err NoMemory) reply tells ok cause fault = absurd (cc)
+
+-- ---- a call that is entered
+
+faults_told : (is_fault : Bool) (before now : ℕ) (journal longer : List Entry) (caller : CallerId) (seq : ℕ) (call : Call) (reply : Reply) →
+    is_store_fault reply ≡ is_fault → longer ≡ journal ++ entry_of caller seq call reply ∷ [] → fault_count journal ≤ before → before ≤ now → (is_store_fault reply ≡ true → Rose before now) → length longer < 2 ^ 64 →
+    fault_count longer ≤ now
+faults_told true before now journal longer caller seq call reply is grows counted rises cause fits =
+    let rose : min (before + 1) (2 ^ 64 - 1) ≤ now = cause is in
+    let one_more : fault_count longer ≤ fault_count journal + 1 = subst (λ (entries : List Entry). fault_count entries ≤ fault_count journal + 1) (sym grows) (fault_count-more journal (entry_of caller seq call reply)) in
+    let within : fault_count longer ≤ length longer = count_by-le-length (λ entry. is_faulted entry.kind) longer in
+    omega arith
+faults_told false before now journal longer caller seq call reply is grows counted rises cause fits =
+    let same : fault_count longer ≡ fault_count journal =
+    ap fault_count grows ∙ fault_count-accepted journal (entry_of caller seq call reply) (ap (λ b. is_faulted (if b then Faulted else Accepted)) is) in
+    omega arith
+
+pub grown : (before now : Option BlockMap) (greatest greater faults more : ℕ) (old new : State FileBlocks) (waiting rest : List BlockId) (journal longer : List Entry) (caller : CallerId) (seq : ℕ) (call : Call) (reply : Reply) →
+    IsConsistent before greatest faults old waiting journal → IsDone before now new caller seq call reply (plain_after journal) → IsKept now greater new rest →
+    leaves_entry call reply ≡ true → longer ≡ journal ++ entry_of caller seq call reply ∷ [] →
+    new.tick ≡ old.tick → new.next_inode ≤ old.next_inode + 1 → faults ≤ more → (is_store_fault reply ≡ true → Rose faults more) → length longer < 2 ^ 64 →
+    IsConsistent now greater more (ticked new) rest longer
+grown before now greatest greater faults more old new waiting rest journal longer caller seq call reply was is kept leaves grows tick inodes rises cause fits =
+    let entry = entry_of caller seq call reply in
     let plain = plain_after journal in
     let one_more : length longer ≡ length journal + 1 = ap length grows ∙ length-append journal (entry ∷ []) in
     record {
-      stands = λ read sizes.
-          ap (viewed read) steps
-          ∙ ap ticked (sym (change-viewed read block_files plain_files (empty_reads read sizes) state call) ∙ ap (λ (s : State (List ℕ)). change plain_files s call) (kept.stands read sizes))
-          ∙ ap (λ b. ticked (changed_if b plain_files plain call)) (sym modifying)
-          ∙ sym (ap plain_after grows ∙ replay_from-push plain_files start journal entry);
+      plain = subst (λ (s : State (List ℕ)). IsPlain now (ticked new) s) (sym (ap plain_after grows ∙ replay_from-push plain_files start journal entry)) (is.entered leaves);
+      kept = ticked-kept now greater new rest kept;
       proper =
           ap is_proper grows
           ∙ proper_from-push start journal entry
-          ∙ ap (λ b. b && may_follow plain entry) kept.proper
-          ∙ ap (λ b. b && is_ok_reply (answer plain call)) modifying
-          ∙ ap is_ok_reply (answer_stands state plain kept.stands call) ∙ ok;
-      tick = omega (arith, one_more, kept.tick, tick);
-      inodes = omega (arith, one_more, kept.inodes, inodes);
-      sorted = subst IsSorted (sym steps) (orders-kept block_files state call kept.sorted);
+          ∙ ap (λ b. b && may_follow plain entry) was.proper
+          ∙ is.follows leaves;
+      tick = omega (arith, one_more, was.tick, tick);
+      inodes = omega (arith, one_more, was.inodes, inodes);
+      faults_counted = faults_told (is_store_fault reply) faults more journal longer caller seq call reply refl grows was.faults_counted rises cause fits;
     }
-
--- ---- answers of a modifying call
-
--- a call that is done is answered so
-replied_ok : {X : Type 0} (reply given : Reply) (at : Asked X) → replied reply at ≡ Ok given → is_ok_reply reply ≡ true → is_ok_reply given ≡ true
-replied_ok reply given (Ok x) is ok = ap is_ok_reply (cc) ∙ ok
-replied_ok reply given (Err why) is ok = absurd (cc)
-
-pub done_ok : (state : State FileBlocks) (call : Call) (reply : Reply) → is_modifying call ≡ true → asked block_files state call ≡ Ok reply → is_ok_reply reply ≡ true
-done_ok state (calls.Mkdir path) reply modifying is = replied_ok (made_reply state) reply (mkdir_at state path) is refl
-done_ok state (calls.Create path over) reply modifying is = replied_ok (made_reply state) reply (create_at state path over) is refl
-done_ok state (calls.Delete path recursive) reply modifying is = replied_ok replies.Done reply (delete_at state path recursive) is refl
-done_ok state (calls.Rename old new) reply modifying is = replied_ok replies.Done reply (rename_at state old new) is refl
-done_ok state (calls.SetMode path mode) reply modifying is = replied_ok replies.Done reply (set_mode_at state path) is refl
-done_ok state (calls.Stat path) reply modifying is = absurd (cc)
-done_ok state (calls.List path size) reply modifying is = absurd (cc)
-
-pub done_leaves : (state : State FileBlocks) (call : Call) (reply : Reply) → is_modifying call ≡ true → asked block_files state call ≡ Ok reply → leaves_entry call reply ≡ true
-done_leaves state call reply modifying is = ap (λ b. b && is_ok_reply reply) modifying ∙ done_ok state call reply modifying is
-
--- a call that isn't done leaves no entry
-pub fault_leaves_none : (call : Call) (fault : AskFault) → leaves_entry call (told_reply (Err fault)) ≡ false
-fault_leaves_none call (Refused why) = and_false (is_modifying call)
-fault_leaves_none call NoMemory = and_false (is_modifying call)
-
--- a refusal that was told is the plain machine's
-pub refused_right : (state : State FileBlocks) (call : Call) (fault : AskFault) → IsFaultOf (asked block_files state call) fault → is_plain_reply (told_reply (Err fault)) ≡ true → told_reply (Err fault) ≡ answer_by block_files state call
-refused_right state call (Refused why) is plain = ap told (sym is)
-refused_right state call NoMemory is plain = absurd (cc)
-
--- the root alone is the state of an empty journal
-pub begun : IsConsistent start []
-begun = record { stands = λ read sizes. refl; proper = refl; tick = refl; inodes = omega arith; sorted = record { live = refl; copies = refl } }
 
 -- ---- answers at the end of a journal
 
@@ -150,33 +284,20 @@ slice_get-seam : {A : Type 0} (xs : List A) (y : A) → slice_get (xs ++ y ∷ [
 slice_get-seam [] y = refl
 slice_get-seam (x ∷ xs) y = slice_get-seam xs y
 
--- an accepted call, with its entry behind the others
-pub legal_accepted : (journal new : List Entry) (caller : CallerId) (seq : ℕ) (call : Call) (reply : Reply) (position : ℕ) →
-    new ≡ journal ++ accepted_entry caller seq call ∷ [] → position ≡ length journal →
-    leaves_entry call reply ≡ true → reply ≡ answer (plain_after journal) call →
-    IsLegalCall new caller seq call (record { reply = reply; position = position; back = None })
-legal_accepted journal new caller seq call reply position grows at_end leaves right =
-    let entry = accepted_entry caller seq call in
-    let front : take position new ≡ journal = ap (λ n. take n new) at_end ∙ ap (take (length journal)) grows ∙ take-append_seam journal (entry ∷ []) in
+-- a call with its entry behind the others
+pub legal_entered : (tells : Bool) (journal longer : List Entry) (caller : CallerId) (seq : ℕ) (call : Call) (told : Answered) →
+    longer ≡ journal ++ entry_of caller seq call told.reply ∷ [] → told.position ≡ length journal → told.back ≡ None → leaves_entry call told.reply ≡ true →
+    (is_plain_reply told.reply ≡ true → claimed tells told.reply ≡ claimed tells (answer (plain_after journal) call)) →
+    IsLegalCall tells longer caller seq call told
+legal_entered tells journal longer caller seq call told grows at_end none leaves right =
+    let entry = entry_of caller seq call told.reply in
+    let front : take told.position longer ≡ journal = ap (λ n. take n longer) at_end ∙ ap (take (length journal)) grows ∙ take-append_seam journal (entry ∷ []) in
     record {
       within = omega (arith, length-append journal (entry ∷ []), ap length grows, at_end);
-      answered = λ _. right ∙ ap (λ (entries : List Entry). answer (plain_after entries) call) (sym front);
-      entered = λ _. ap (λ n. slice_get new n) at_end ∙ ap (λ (entries : List Entry). slice_get entries (length journal)) grows ∙ slice_get-seam journal entry;
-      kept = λ _. refl;
-      handed_back = λ none. absurd (cc);
-    }
-
--- a call that leaves no entry
-pub legal_other : (journal : List Entry) (caller : CallerId) (seq : ℕ) (call : Call) (reply : Reply) (position : ℕ) →
-    position ≡ length journal → leaves_entry call reply ≡ false → (is_plain_reply reply ≡ true → reply ≡ answer (plain_after journal) call) →
-    IsLegalCall journal caller seq call (record { reply = reply; position = position; back = Some call })
-legal_other journal caller seq call reply position at_end leaves right =
-    record {
-      within = omega (arith, at_end);
-      answered = λ plain. right plain ∙ ap (λ (entries : List Entry). answer (plain_after entries) call) (sym (ap (λ n. take n journal) at_end ∙ take_all (length journal) journal (omega arith)));
-      entered = λ left. absurd (cc);
-      kept = λ left. absurd (cc);
-      handed_back = λ _. refl;
+      answered = λ plain. right plain ∙ ap (λ (entries : List Entry). claimed tells (answer (plain_after entries) call)) (sym front);
+      entered = λ _. ap (λ n. slice_get longer n) at_end ∙ ap (λ (entries : List Entry). slice_get entries (length journal)) grows ∙ slice_get-seam journal entry;
+      kept = λ _. none;
+      handed_back = λ no. absurd (cc);
     }
 
 -- ---- what is shown
@@ -185,26 +306,22 @@ legal_other journal caller seq call reply position at_end leaves right =
 abbrev line_with : {B : Type 0} → Names × Node B → ℕ → Bool → TreeLine
 line_with place size is_dir = record { depth = length place.0; id = place.1.id; is_dir = is_dir; mode = place.1.mode; stamp = place.1.stamp; size = size; name = slice_get place.0 (length place.0 - 1) }
 
-line-viewed : (read : FileBlocks → List ℕ) → KeepsSizes read → (whole : Tree FileBlocks) (place : Names × Node FileBlocks) → tree_line length (viewed_tree read whole) (viewed_place read place) ≡ tree_line (λ file. file.size) whole place
-line-viewed read sizes whole place = by place.1.body
+-- the line of a node whose file is its size alone
+line-viewed : {B : Type 0} (size : B → ℕ) (whole : Tree B) (place : Names × Node B) → tree_line (λ n. n) (viewed_tree size whole) (viewed_place size place) ≡ tree_line size whole place
+line-viewed {B} size whole place = by place.1.body
   where
-    by : (body : Body FileBlocks) → line_with place (size_of length (viewed_tree read whole) place.0 (viewed_body read body)) (is_dir_body (viewed_body read body)) ≡ line_with place (size_of (λ file. file.size) whole place.0 body) (is_dir_body body)
-    by (File file) = ap (λ n. line_with place n false) (sizes file)
-    by Dir = ap (λ (items : List Item). line_with place (length items) true) (listing-viewed read whole place.0)
+    by : (body : Body B) → line_with place (size_of (λ n. n) (viewed_tree size whole) place.0 (viewed_body size body)) (is_dir_body (viewed_body size body)) ≡ line_with place (size_of size whole place.0 body) (is_dir_body body)
+    by (File file) = refl
+    by Dir = ap (λ (items : List Item). line_with place (length items) true) (listing-viewed size whole place.0)
 
-lines-viewed : (read : FileBlocks → List ℕ) → KeepsSizes read → (whole tree : Tree FileBlocks) → map (tree_line length (viewed_tree read whole)) (viewed_tree read tree) ≡ map (tree_line (λ file. file.size) whole) tree
-lines-viewed read sizes whole [] = refl
-lines-viewed read sizes whole (place ∷ tree) =
-    ap (λ (l : TreeLine). l ∷ map (tree_line length (viewed_tree read whole)) (viewed_tree read tree)) (line-viewed read sizes whole place)
-    ∙ ap (λ (ls : List TreeLine). tree_line (λ file. file.size) whole place ∷ ls) (lines-viewed read sizes whole tree)
+lines-viewed : {B : Type 0} (size : B → ℕ) (whole tree : Tree B) → map (tree_line (λ n. n) (viewed_tree size whole)) (viewed_tree size tree) ≡ map (tree_line size whole) tree
+lines-viewed size whole [] = refl
+lines-viewed size whole (place ∷ tree) =
+    ap (λ (line : TreeLine). line ∷ map (tree_line (λ n. n) (viewed_tree size whole)) (viewed_tree size tree)) (line-viewed size whole place)
+    ∙ ap (λ (lines : List TreeLine). tree_line size whole place ∷ lines) (lines-viewed size whole tree)
 
-pub lines_stand : (state : State FileBlocks) (plain : State (List ℕ)) → StandsFor state plain → lines_of (λ file. file.size) state.tree ≡ tree_lines plain
-lines_stand state plain stands = sym (lines-viewed zeros zeros_keep state.tree state.tree) ∙ ap tree_lines (stands zeros zeros_keep)
-
-pub counts_stand : (state : State FileBlocks) (plain : State (List ℕ)) → StandsFor state plain → counts_of state ≡ counts_of plain
-counts_stand state plain stands =
-    let nodes = length-map state.tree (viewed_place zeros) in
-    let snapshots = length-map state.members (viewed_member zeros) in
-    ap (λ n. record { rows = n; records = 0; list_entries = n - 1; snapshots = length state.members; blocks = 0 }) (sym nodes)
-    ∙ ap (λ n. record { rows = length (viewed_tree zeros state.tree); records = 0; list_entries = length (viewed_tree zeros state.tree) - 1; snapshots = n; blocks = 0 }) (sym snapshots)
-    ∙ ap counts_of (stands zeros zeros_keep)
+pub lines_stand : (whole : State FileBlocks) (plain : State (List ℕ)) → StandsFor whole plain → lines_of (λ file. file.size) whole.tree ≡ tree_lines plain
+lines_stand whole plain stands =
+    sym (lines-viewed (λ file. file.size) whole.tree whole.tree)
+    ∙ ap (λ (sized : State ℕ). lines_of (λ n. n) sized.tree) stands
+    ∙ lines-viewed length plain.tree plain.tree

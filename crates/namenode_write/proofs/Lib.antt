@@ -1,1 +1,9 @@
+pub mod Appends
+pub mod Causes
+pub mod Files
+pub mod Freed
 pub mod Grown
+pub mod KeptCalls
+pub mod Lifted
+pub mod Refused
+pub mod Trees

@@ -2,6 +2,7 @@
 use Rattle.std.specs.Prelude.{List}
 use Rattle.hs_types.specs.declared.call.Entry.{Entry}
 
--- a namenode is its journal: all that it answers follows from it
-pub record Journal : Type 0 where
+-- a namenode is its journal, from which all that it answers follows, and the store of its files' bytes
+pub record Journal (B : Type 0) : Type 0 where
   pub entries : List Entry
+  pub store : B

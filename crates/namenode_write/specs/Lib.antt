@@ -1,2 +1,5 @@
 pub mod Consistent
+pub mod Extends
 pub mod Journal
+pub mod Kept
+pub mod Made

@@ -1,7 +1,10 @@
 //! A namenode: it answers calls one after the other, and its journal is their one history.
 #![tactic(auto)]
 
+mod bytes;
+mod freeing;
 pub mod namenode;
+mod namespace;
 
 pub use namenode::Namenode;
 

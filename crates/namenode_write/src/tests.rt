@@ -1,6 +1,8 @@
+mod bytes;
 mod depth;
 
 use crate::Namenode;
+use block_store::SteadyBlocks;
 use hs_plain::answer::is_exclusive;
 use hs_types::{
     Answered, Call, CallerId, Counts, Entry, EntryKind, InodeId, List, Mode, Name, NameText,
@@ -18,9 +20,14 @@ fn name(alloc: Global, text: &str) -> Result<Name, Fail> {
     Ok(Name::read(alloc, &text)?)
 }
 
+/// A namenode over a store that never fails.
+fn steady(alloc: Global) -> Result<Namenode<SteadyBlocks>, Fail> {
+    Ok(Namenode::new(alloc, SteadyBlocks::new(alloc))?)
+}
+
 /// A namenode with the directories `/a` and `/b` and the file `/a/f`, made by the calls 1, 2 and 3.
-fn with_a_file(alloc: Global) -> Result<Namenode, Fail> {
-    let mut namenode = Namenode::new(alloc)?;
+fn with_a_file(alloc: Global) -> Result<Namenode<SteadyBlocks>, Fail> {
+    let mut namenode = steady(alloc)?;
     for (seq, path) in [(1, "/a"), (2, "/b")] {
         let call = Call::Mkdir {
             path: path_text(alloc, path)?,
@@ -38,7 +45,7 @@ fn with_a_file(alloc: Global) -> Result<Namenode, Fail> {
 #[test]
 fn a_call_leaves_its_entry_or_is_handed_back(rt: HostRuntime) -> Result<(), Fail> {
     let alloc = rt.alloc();
-    let mut namenode = Namenode::new(alloc)?;
+    let mut namenode = steady(alloc)?;
     let rows = [
         (1, "/a", Reply::Made { id: InodeId(2) }, 0),
         (2, "/a", Reply::Refused(Refusal::Exists), 1),
@@ -100,7 +107,7 @@ fn call_with(alloc: Global, seq: u64) -> Result<Call, Fail> {
 #[test]
 fn the_journal_has_the_accepted_calls_alone(rt: HostRuntime) -> Result<(), Fail> {
     let alloc = rt.alloc();
-    let mut namenode = Namenode::new(alloc)?;
+    let mut namenode = steady(alloc)?;
     let mut entries = List::new(alloc);
     for seq in 1..6 {
         let call = call_with(alloc, seq)?;
@@ -113,7 +120,7 @@ fn the_journal_has_the_accepted_calls_alone(rt: HostRuntime) -> Result<(), Fail>
     }
     assert_eq!(rt; namenode.tick(), 4);
     assert_eq!(rt; namenode.journal(), &entries);
-    assert_eq!(rt; namenode.end(), entries);
+    assert_eq!(rt; namenode.end().0, entries);
     Ok(())
 }
 
@@ -255,7 +262,7 @@ fn a_mode_is_set_with_the_tick(rt: HostRuntime) -> Result<(), Fail> {
 }
 
 /// The number of a call's refusal, or 0.
-fn refusal_of(namenode: &mut Namenode, call: Call) -> u8 {
+fn refusal_of(namenode: &mut Namenode<SteadyBlocks>, call: Call) -> u8 {
     if !is_exclusive(&call) {
         return 0;
     }

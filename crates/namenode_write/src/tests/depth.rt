@@ -17,7 +17,11 @@ fn below(alloc: Global, piece: u32, depth: u32, end: &str) -> Result<PathText, F
 }
 
 /// Makes a piece: a directory in the root, and a chain below it.
-fn make_piece(alloc: Global, namenode: &mut Namenode, piece: u32) -> Result<(), Fail> {
+fn make_piece(
+    alloc: Global,
+    namenode: &mut Namenode<SteadyBlocks>,
+    piece: u32,
+) -> Result<(), Fail> {
     for depth in 0..PIECE {
         let path = below(alloc, piece, depth, "")?;
         namenode.do_call(CallerId(0), 1, Call::Mkdir { path });
@@ -26,7 +30,12 @@ fn make_piece(alloc: Global, namenode: &mut Namenode, piece: u32) -> Result<(), 
 }
 
 /// Hangs a piece, with all that hangs on it, on the end of another.
-fn hang(alloc: Global, namenode: &mut Namenode, piece: u32, on: u32) -> Result<(), Fail> {
+fn hang(
+    alloc: Global,
+    namenode: &mut Namenode<SteadyBlocks>,
+    piece: u32,
+    on: u32,
+) -> Result<(), Fail> {
     let call = Call::Rename {
         old: below(alloc, piece, 0, "")?,
         new: below(alloc, on, PIECE - 1, "/b")?,
@@ -38,7 +47,7 @@ fn hang(alloc: Global, namenode: &mut Namenode, piece: u32, on: u32) -> Result<(
 #[test]
 fn a_subtree_of_depth_1500_is_moved_printed_and_deleted(rt: HostRuntime) -> Result<(), Fail> {
     let alloc = rt.alloc();
-    let mut namenode = Namenode::new(alloc)?;
+    let mut namenode = steady(alloc)?;
     for piece in 0..PIECES {
         make_piece(alloc, &mut namenode, piece)?;
     }

@@ -1,0 +1,28 @@
+use Rattle.namenode_write.proofs.Causes.{read-made, read-store, read-file, read-held, fault-then, cause-asked, err_at, never_fault}
+use Rattle.namenode_write.proofs.Refused.{found_file_never}
+use Rattle.hs_types.specs.declared.call.Call.TheVariants as calls
+use Rattle.namenode_write.proofs.bytes.read.Goals as goal
+
+pub page_at-requires-clause-file : goal.page_at-requires-clause-file
+page_at-requires-clause-file g c = read-file _ _ c.args.namespace.now.state _ c.requires.kept c.args.path.now (c.in_ok-place.place, c.in_ok-place.file.now) c.in_ok-place.ensures
+
+pub page_at-requires-clause-held : goal.page_at-requires-clause-held
+page_at-requires-clause-held g c = read-held _ _ c.args.namespace.now.state _ c.requires.kept c.args.path.now (c.in_ok-place.place, c.in_ok-place.file.now) c.in_ok-place.ensures
+
+pub returns-in-Ok-clause-made : goal.returns-in-Ok-clause-made
+returns-in-Ok-clause-made g c = λ plain is.
+    read-made _ c.args.namespace.now.state plain c.args.path.now c.args.offset c.args.len (c.in_ok-place.place, c.in_ok-place.file.now) _ c.in-Ok.reply c.in_ok-place.ensures c.page_at.ensures.kept c.in-Ok.ensures.sized
+    c.in-Ok.ensures.told is
+
+pub returns-in-Err-clause-cause : goal.returns-in-Err-clause-cause
+returns-in-Err-clause-cause g c = λ plain is.
+    read-store _ c.args.namespace.now.state plain c.args.path.now c.args.offset c.args.len (c.in_ok-place.place, c.in_ok-place.file.now) c.in_ok-place.ensures c.in-Err.error c.fault_of.result
+    c.fault_of.ensures is
+
+pub returns-in_err-place-clause-cause : goal.returns-in_err-place-clause-cause
+returns-in_err-place-clause-cause g c =
+    err_at c.from_residual.result c.in_err-place.field-0.0 _ c.from_residual.ensures.1
+    (λ plain is. cause-asked _ c.args.namespace.now.state plain (calls.Read c.args.path.now c.args.offset c.args.len) c.in_err-place.field-0.0 is (fault-then _ _ c.in_err-place.field-0.0 c.in_err-place.ensures))
+
+pub returns-in_err-place-clause-store_fault : goal.returns-in_err-place-clause-store_fault
+returns-in_err-place-clause-store_fault g c = never_fault c.from_residual.result _ c.in_err-place.field-0.0 (found_file_never c.args.namespace.now.state c.args.path.now) c.from_residual.ensures.1 c.in_err-place.ensures
