@@ -53,9 +53,12 @@ fn asked(alloc: Global, state: &WholeState, call: &Call) -> Result<Reply, AskFau
         Call::List { path, size } => list_page(alloc, state, path, *size),
         Call::Mkdir { .. }
         | Call::Create { .. }
+        | Call::Append { .. }
         | Call::Delete { .. }
         | Call::Rename { .. }
-        | Call::SetMode { .. } => unreachable!(),
+        | Call::SetMode { .. }
+        | Call::Read { .. }
+        | Call::ReadNext { .. } => unreachable!(),
     }
 }
 

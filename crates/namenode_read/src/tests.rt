@@ -1,10 +1,10 @@
 ghost use Rattle.std.specs.Prelude.{◌≡◌, true, IfOk};
-ghost use Rattle.hs_plain.specs.Answer.{is_shared};
+ghost use Rattle.hs_plain.specs.Answer.{is_shared, uses_store as uses_plain_store};
 ghost use Rattle.hs_plain.specs.Valid.{IsSorted};
 
 use crate::ask;
 use hs_plain::WholeState;
-use hs_plain::answer::is_exclusive;
+use hs_plain::answer::is_modifying;
 use hs_plain::change::make_change;
 use hs_plain::replay::start;
 use hs_types::{
@@ -37,13 +37,26 @@ fn list(alloc: Global, path: &str, size: u16) -> Result<Call, Fail>
     Ok(Call::List { path, size })
 }
 
+/// Whether a call uses the store.
+fn uses_store(call: &Call) -> bool
+    ensures { result ≡ uses_plain_store call.now }
+{
+    matches!(
+        call,
+        Call::Append { .. } | Call::Read { .. } | Call::ReadNext { .. }
+    )
+}
+
 /// The state after these calls, each with the next tick.
 fn after(alloc: Global, calls: &[Call]) -> Result<WholeState, Fail>
     ensures { IfOk result (λ state. IsSorted state) }
 {
     let mut state = start(alloc)?;
     for call in calls {
-        if !is_exclusive(call) || state.tick > 99 || state.next_inode > 99 {
+        if !is_modifying(call) || uses_store(call) {
+            return Err("a call that a test doesn't make".into());
+        }
+        if state.tick > 99 || state.next_inode > 99 {
             return Err("too much for a test".into());
         }
         make_change(alloc, &mut state, call).map_err(|_| "a call that is made")?;

@@ -1,7 +1,18 @@
-use Rattle.std.proofs.Common.{sym, ◌∙◌}
+use Rattle.std.proofs.Common.{◌≡◌, Bool, true, false, ◌&&◌, ◌||◌, not, refl, sym, ◌∙◌}
+use Rattle.hs_plain.specs.Answer.{is_modifying, uses_store}
 use Rattle.hs_plain.proofs.Stands.{answer_stands}
 use Rattle.namenode_read.proofs.ask.Goals as goal
 
+-- a call beside others reads no file
+reads_none : (modifying stored : Bool) → not (modifying || stored) ≡ true → (stored && not modifying) ≡ false
+reads_none true stored shared = absurd (cc)
+reads_none false true shared = absurd (cc)
+reads_none false false shared = refl
+
 -- the plain state answers as the state with blocks
 pub returns : goal.returns
-returns c = record { answered = λ plain stands told. c.reply_in.ensures told ∙ sym (answer_stands c.args.state.now plain stands c.args.call.now) }
+returns c = record {
+  answered = λ plain stands told.
+      c.reply_in.ensures told
+      ∙ sym (answer_stands c.args.state.now plain stands c.args.call.now (reads_none (is_modifying c.args.call.now) (uses_store c.args.call.now) c.requires.shared));
+}
