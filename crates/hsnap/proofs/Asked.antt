@@ -1,29 +1,53 @@
--- A call that changes nothing is answered legally at the end of a journal.
-use Rattle.std.proofs.Common.{◌≡◌, ◌≢◌, ℕ, true, false, not, ◌&&◌, Some, List, length, take, refl, ap, sym, ◌∙◌, arith}
+-- A call that changes nothing and uses no store is answered legally at the end of a journal.
+use Rattle.std.proofs.Common.{◌≡◌, ◌≢◌, ℕ, Bool, true, false, not, ◌&&◌, ◌||◌, ◌==◌, cond, Some, None, List, ◌++◌, length, take, refl, ap, sym, ◌∙◌, append-nil, arith}
+use Rattle.std.specs.Option.{option_to_list}
 use Rattle.std.proofs.lemmas.List.{take_all}
 use Rattle.hs_types.specs.declared.call.Call.{Call}
 use Rattle.hs_types.specs.declared.call.Reply.{Reply}
-use Rattle.hs_types.specs.declared.call.Reply.TheVariants.{NoMemory}
+use Rattle.hs_types.specs.declared.call.Reply.TheVariants.{Made, Done, Bytes, Stat, Page, Refused, NoMemory}
 use Rattle.hs_types.specs.declared.call.Entry.{Entry}
 use Rattle.hs_types.specs.declared.call.Answered.{Answered}
-use Rattle.hs_plain.specs.Answer.{answer, is_modifying, is_shared, is_ok_reply}
+use Rattle.hs_plain.specs.Answer.{answer, claimed, is_modifying, uses_store, is_shared, is_ok_reply}
 use Rattle.hs_plain.specs.Replay.{plain_after}
-use Rattle.hs_plain.specs.Legal.{IsLegalCall, leaves_entry, is_plain_reply}
+use Rattle.hs_plain.specs.Legal.{IsLegalCall, leaves_entry, entry_of, entry_left, is_store_fault, is_plain_reply}
 use Rattle.hsnap.specs.Run.{setup_caller}
+use Rattle.hsnap.proofs.Faultless.{shared_faultless}
 
-pub leaves_none : (call : Call) (reply : Reply) → is_shared call ≡ true → leaves_entry call reply ≡ false
-leaves_none call reply shared =
-    elim (is_modifying call) as (λ b. not b ≡ true → (b && is_ok_reply reply) ≡ false) [ true ↦ λ e. absurd (cc) | false ↦ λ e. refl ] shared
+left_none : (fault modifying stored ok : Bool) → fault ≡ false → not (modifying || stored) ≡ true → (fault || (modifying && ok)) ≡ false
+left_none true modifying stored ok e shared = absurd (cc)
+left_none false true stored ok e shared = absurd (cc)
+left_none false false stored ok e shared = refl
 
-pub asked_legal : (journal : List Entry) (call : Call) (told : Answered) (seq : ℕ) → is_shared call ≡ true →
+-- the answer, or want of memory, is no fault of the store
+not_faulted : (reply right : Reply) → is_store_fault right ≡ false → (reply ≢ NoMemory → reply ≡ right) → is_store_fault reply ≡ false
+not_faulted (Made id) right sure is = refl
+not_faulted Done right sure is = refl
+not_faulted (Bytes bytes next) right sure is = refl
+not_faulted (Stat id is_dir mode stamp size) right sure is = refl
+not_faulted (Page items next) right sure is = refl
+not_faulted (Refused why) right sure is = ap is_store_fault (is (λ e. absurd (cc))) ∙ sure
+not_faulted NoMemory right sure is = refl
+
+-- the reply of a call beside others leaves no entry
+pub asked_none : (journal : List Entry) (call : Call) (reply : Reply) → is_shared call ≡ true → (reply ≢ NoMemory → reply ≡ answer (plain_after journal) call) → leaves_entry call reply ≡ false
+asked_none journal call reply shared right =
+    let sure : is_store_fault reply ≡ false = not_faulted reply (answer (plain_after journal) call) (shared_faultless (plain_after journal) call shared) right in
+    left_none (is_store_fault reply) (is_modifying call) (uses_store call) (is_ok_reply reply) sure shared
+
+-- and a journal with what it leaves is as before
+pub none_grows : (journal : List Entry) (seq : ℕ) (call : Call) (told : Answered) → leaves_entry call told.reply ≡ false → journal ≡ journal ++ option_to_list (entry_left setup_caller (record { seq = seq; call = call; told = told }))
+none_grows journal seq call told none =
+    sym (ap (λ b. journal ++ option_to_list (cond b (Some (entry_of setup_caller seq call told.reply)) None)) none ∙ append-nil journal)
+
+pub asked_legal : (tells : Bool) (journal : List Entry) (call : Call) (told : Answered) (seq : ℕ) → is_shared call ≡ true →
     told.position ≡ length journal → told.back ≡ Some call → (told.reply ≢ NoMemory → told.reply ≡ answer (plain_after journal) call) →
-    IsLegalCall journal setup_caller seq call told
-asked_legal journal call told seq shared place back right =
-    let none = leaves_none call told.reply shared in
+    IsLegalCall tells journal setup_caller seq call told
+asked_legal tells journal call told seq shared place back right =
+    let none : leaves_entry call told.reply ≡ false = asked_none journal call told.reply shared right in
     let all : take told.position journal ≡ journal = take_all told.position journal (omega (arith, place)) in
     record {
       within = omega (arith, place);
-      answered = λ plain. right (λ want. absurd (true_not_false (sym plain ∙ ap is_plain_reply want))) ∙ ap (λ (entries : List Entry). answer (plain_after entries) call) (sym all);
+      answered = λ plain. ap (claimed tells) (right (λ want. absurd (true_not_false (sym plain ∙ ap is_plain_reply want))) ∙ ap (λ (entries : List Entry). answer (plain_after entries) call) (sym all));
       entered = λ left. absurd (true_not_false (sym left ∙ none));
       kept = λ left. absurd (true_not_false (sym left ∙ none));
       handed_back = λ left. back;

@@ -1,23 +1,23 @@
--- In a small state no page of 1,000 entries has a cursor, so no answer goes on.
-use Rattle.std.proofs.Common.{◌≡◌, ℕ, suc, ◌+◌, ◌<◌, ◌≤◌, zero, nat_le, Bool, true, false, cond, not, ◌==◌, Option, Some, None, Ok, Err, List, [], ◌∷◌, ◌++◌, length, take, get_or, refl, ap, sym, ◌∙◌, subst, arith}
-use Rattle.std.specs.Option.{option_to_list}
-use Rattle.std.specs.List.{list_all, list_any, cons_option}
+-- What comes behind an answer: no page of 1,000 entries has a cursor in a small state, and a read goes on at a greater offset.
+use Rattle.std.proofs.Common.{◌≡◌, ℕ, suc, ◌+◌, ◌-◌, ◌^◌, ◌<◌, ◌≤◌, nat_le, Bool, true, false, cond, ◌==◌, Option, Some, None, Ok, Err, List, [], ◌∷◌, length, take, refl, ap, sym, ◌∙◌, subst, arith}
+use Rattle.std.specs.Prelude.{is_some}
+use Rattle.std.specs.List.{list_any, cons_option}
 use Rattle.std.proofs.lemmas.Bool.Decides.{nat_tests}
-use Rattle.std.proofs.lemmas.List.{length-map, length-take-le, take_more}
-use Rattle.std.proofs.Math.Seq.{take-append_seam}
 use Rattle.hs_types.specs.Names.{Names}
 use Rattle.hs_types.specs.Paths.{path_of}
+use Rattle.hs_types.specs.declared.ids.InodeId.{InodeId}
 use Rattle.hs_types.specs.declared.path.Path.{Path}
+use Rattle.hs_types.specs.declared.call.Refusal.{Refusal}
 use Rattle.hs_types.specs.declared.call.Refusal.TheVariants.{NotFound, NotDir}
 use Rattle.hs_types.specs.declared.call.Place.{Place}
 use Rattle.hs_types.specs.declared.call.Place.TheVariants as places
 use Rattle.hs_types.specs.declared.call.Item.{Item}
 use Rattle.hs_types.specs.declared.call.Call.{Call}
 use Rattle.hs_types.specs.declared.call.Call.TheVariants as calls
+use Rattle.hs_types.specs.declared.call.ListCursor.{ListCursor}
+use Rattle.hs_types.specs.declared.call.ReadCursor.{ReadCursor}
 use Rattle.hs_types.specs.declared.call.Reply.{Reply}
-use Rattle.hs_types.specs.declared.call.Reply.TheVariants.{Made, Done, Stat, Page, Refused, NoMemory}
-use Rattle.hs_types.specs.declared.call.Entry.{Entry}
-use Rattle.hs_types.specs.declared.call.Answered.{Answered}
+use Rattle.hs_types.specs.declared.call.Reply.TheVariants.{Made, Done, Bytes, Stat, Page, Refused, NoMemory}
 use Rattle.hs_plain.specs.declared.state.Member.{Member}
 use Rattle.hs_plain.specs.declared.state.Node.{Node}
 use Rattle.hs_plain.specs.declared.state.State.{State}
@@ -25,16 +25,11 @@ use Rattle.hs_plain.specs.Asked.{Asked, ◌>>=◌}
 use Rattle.hs_plain.specs.Files.{plain_files}
 use Rattle.hs_plain.specs.Tree.{Tree, child_item, listing, is_dir}
 use Rattle.hs_plain.specs.State.{resolve, items_of, items_at, place_of, same_inode, snapshot_items, snapshots_of, member_with}
-use Rattle.hs_plain.specs.Answer.{answer, told, replied, made_reply, mkdir_at, create_at, delete_at, rename_at, set_mode_at, node_stat, list_stat, stat_at, page_of, last_name}
-use Rattle.hs_plain.specs.Replay.{plain_after}
-use Rattle.hs_plain.specs.Legal.{Said, IsLegalCall, is_plain_reply, entry_left, leaves_entry, reach_of}
-use Rattle.hsnap.specs.declared.ran.LogItem.{LogItem}
+use Rattle.hs_plain.specs.Answer.{answer, told, replied, made_reply, mkdir_at, create_at, append_at, delete_at, rename_at, set_mode_at, node_stat, list_stat, stat_at, page_of, last_name, next_read, page_at, found_file, next_file, is_modifying}
 use Rattle.hsnap.specs.Pages.{has_greatest_page}
-use Rattle.hsnap.specs.Run.{setup_caller, item_of, goes_on, is_cursor, is_last, in_turn}
-use Rattle.hsnap.specs.Turn.{turn_end, IsSoFar}
-use Rattle.hsnap.proofs.Both.{both_first, both_second}
-use Rattle.hsnap.proofs.Small.{IsSmall, journal_small}
-use Rattle.hsnap.proofs.Turns.{so_far_grows}
+use Rattle.hsnap.specs.Run.{goes_on, next_of, next_call}
+use Rattle.hsnap.specs.Turn.{IsWithin}
+use Rattle.hsnap.proofs.Small.{IsSmall}
 
 -- ---- listings
 
@@ -66,126 +61,159 @@ items_few n state small (places.Frozen id snapshot) =
 items_few n state small (places.SnapshotsOf dir) =
     subst (λ ids. AreFew n (cond (list_any (same_inode dir) ids) (Ok (snapshot_items state.members dir)) (Err NotFound))) (sym small.no_snapshottable) tt
 
-list_ends : (state : State (List ℕ)) → IsSmall 1000 state → (text : List ℕ) → goes_on (answer state (calls.List text 1000)) ≡ false
-list_ends state small text = of_path (path_of text)
+-- ---- what holds of each reply that no page is
+
+module _ (P : Reply → Type 0) (refused : (why : Refusal) → P (Refused why)) where
+  then_has : {X : Type 0} (first : Asked X) (f : X → Asked Reply) → ((x : X) → P (told (f x))) → P (told (first >>= f))
+  then_has (Ok x) f has = has x
+  then_has (Err why) f has = refused why
+
+  at_place_has : (state : State (List ℕ)) (text : List ℕ) (f : Place → Asked Reply) → ((place : Place) → P (told (f place))) → P (told (path_of text >>= λ path. (resolve state path >>= f)))
+  at_place_has state text f has = then_has (path_of text) (λ path. resolve state path >>= f) (λ path. then_has (resolve state path) f has)
+
+  replied_has : {X : Type 0} (reply : Reply) → P reply → (asked : Asked X) → P (told (replied reply asked))
+  replied_has reply has (Ok x) = has
+  replied_has reply has (Err why) = refused why
+
+  module _ (stat : (id : InodeId) (is_dir : Bool) (mode stamp size : ℕ) → P (Stat id is_dir mode stamp size)) where
+    node_stat_has : (tree : Tree (List ℕ)) (place : Option (Names × Node (List ℕ))) → P (told (node_stat plain_files tree place))
+    node_stat_has tree None = refused NotFound
+    node_stat_has tree (Some place) = stat _ _ _ _ _
+
+    list_stat_has : (snapshots : ℕ) (place : Option (Names × Node (List ℕ))) → P (told (list_stat snapshots place))
+    list_stat_has snapshots None = refused NotFound
+    list_stat_has snapshots (Some place) = stat _ _ _ _ _
+
+    stat_at_has : (state : State (List ℕ)) (place : Place) → P (told (stat_at plain_files state place))
+    stat_at_has state (places.Live id) = node_stat_has state.tree (place_of state.tree id)
+    stat_at_has state (places.Frozen id snapshot) = then_has (member_with state.members snapshot) (λ m. node_stat plain_files m.tree (place_of m.tree id)) (λ m. node_stat_has m.tree (place_of m.tree id))
+    stat_at_has state (places.SnapshotsOf dir) = list_stat_has (snapshots_of state.members dir) (place_of state.tree dir)
+
+    stat_has : (state : State (List ℕ)) (path : List ℕ) → P (answer state (calls.Stat path))
+    stat_has state path = at_place_has state path (stat_at plain_files state) (stat_at_has state)
+
+-- ---- a call comes next exactly where a reply goes on
+
+Agrees : Reply → Type 0
+Agrees reply = goes_on reply ≡ is_some (next_call reply)
+
+list_agrees : (state : State (List ℕ)) → IsSmall 1000 state → (text : List ℕ) → Agrees (answer state (calls.List text 1000))
+unfolding Agrees
+list_agrees state small text = at_place_has Agrees (λ why. refl) state text (λ place. items_at state place >>= λ items. Ok (page_of place items None 1000)) (λ place. of_items place (items_at state place) (items_few 1000 state small place))
   where
-    of_items : (place : Place) (items : Asked (List Item)) → AreFew 1000 items → goes_on (told (items >>= λ xs. Ok (page_of place xs None 1000))) ≡ false
+    of_items : (place : Place) (items : Asked (List Item)) → AreFew 1000 items → Agrees (told (items >>= λ xs. Ok (page_of place xs None 1000)))
     of_items place (Err why) few = refl
     of_items place (Ok items) few =
         let fits : nat_le (length items) 1000 ≡ true = grind (arith, nat_tests) in
-        ap (λ b. is_cursor (cond b None (Some (record { place = place; after = last_name (take 1000 items) })))) fits
+        ap (λ b. is_some {T = ListCursor} (cond b None (Some (record { place = place; after = last_name (take 1000 items) })))) fits
 
-    of_place : (place : Asked Place) → goes_on (told (place >>= λ p. (items_at state p >>= λ xs. Ok (page_of p xs None 1000)))) ≡ false
-    of_place (Err why) = refl
-    of_place (Ok place) = of_items place (items_at state place) (items_few 1000 state small place)
+cursor_agrees : (next : Option ReadCursor) → is_some next ≡ is_some (next_of next)
+cursor_agrees None = refl
+cursor_agrees (Some cursor) = refl
 
-    of_path : (path : Asked Path) → goes_on (told (path >>= λ q. (resolve state q >>= λ p. (items_at state p >>= λ xs. Ok (page_of p xs None 1000))))) ≡ false
-    of_path (Err why) = refl
-    of_path (Ok path) = of_place (resolve state path)
+page_agrees : (at : Asked (Place × List ℕ)) (offset len : ℕ) → Agrees (told (at >>= λ a. Ok (page_at plain_files offset len a)))
+unfolding Agrees
+page_agrees (Err why) offset len = refl
+page_agrees (Ok at) offset len = cursor_agrees (next_read at.0 (length at.1) (offset + len))
 
--- ---- other answers
-
-replied_ends : {X : Type 0} (reply : Reply) → goes_on reply ≡ false → (asked : Asked X) → goes_on (told (replied reply asked)) ≡ false
-replied_ends reply last (Ok x) = last
-replied_ends reply last (Err why) = refl
-
-node_stat_ends : (tree : Tree (List ℕ)) (place : Option (Names × Node (List ℕ))) → goes_on (told (node_stat plain_files tree place)) ≡ false
-node_stat_ends tree None = refl
-node_stat_ends tree (Some place) = refl
-
-list_stat_ends : (snapshots : ℕ) (place : Option (Names × Node (List ℕ))) → goes_on (told (list_stat snapshots place)) ≡ false
-list_stat_ends snapshots None = refl
-list_stat_ends snapshots (Some place) = refl
-
-stat_at_ends : (state : State (List ℕ)) (place : Place) → goes_on (told (stat_at plain_files state place)) ≡ false
-stat_at_ends state (places.Live id) = node_stat_ends state.tree (place_of state.tree id)
-stat_at_ends state (places.Frozen id snapshot) = of_member (member_with state.members snapshot)
-  where
-    of_member : (member : Asked (Member (List ℕ))) → goes_on (told (member >>= λ m. node_stat plain_files m.tree (place_of m.tree id))) ≡ false
-    of_member (Err why) = refl
-    of_member (Ok member) = node_stat_ends member.tree (place_of member.tree id)
-stat_at_ends state (places.SnapshotsOf dir) = list_stat_ends (snapshots_of state.members dir) (place_of state.tree dir)
-
-stat_ends : (state : State (List ℕ)) (text : List ℕ) → goes_on (answer state (calls.Stat text)) ≡ false
-stat_ends state text = of_path (path_of text)
-  where
-    of_place : (place : Asked Place) → goes_on (told (place >>= λ p. stat_at plain_files state p)) ≡ false
-    of_place (Err why) = refl
-    of_place (Ok place) = stat_at_ends state place
-
-    of_path : (path : Asked Path) → goes_on (told (path >>= λ q. (resolve state q >>= λ p. stat_at plain_files state p))) ≡ false
-    of_path (Err why) = refl
-    of_path (Ok path) = of_place (resolve state path)
-
-ends : (state : State (List ℕ)) → IsSmall 1000 state → (call : Call) → has_greatest_page call ≡ true → goes_on (answer state call) ≡ false
-ends state small (calls.Mkdir path) greatest = replied_ends (made_reply state) refl (mkdir_at state path)
-ends state small (calls.Create path over) greatest = replied_ends (made_reply state) refl (create_at state path over)
-ends state small (calls.Delete path recursive) greatest = replied_ends Done refl (delete_at state path recursive)
-ends state small (calls.Rename old new) greatest = replied_ends Done refl (rename_at state old new)
-ends state small (calls.SetMode path mode) greatest = replied_ends Done refl (set_mode_at state path)
-ends state small (calls.Stat path) greatest = stat_ends state path
-ends state small (calls.List path size) greatest =
+pub answer_agrees : (state : State (List ℕ)) → IsSmall 1000 state → (call : Call) → has_greatest_page call ≡ true → goes_on (answer state call) ≡ is_some (next_call (answer state call))
+unfolding Agrees
+answer_agrees state small (calls.Mkdir path) greatest = replied_has Agrees (λ why. refl) (made_reply state) refl (mkdir_at state path)
+answer_agrees state small (calls.Create path over) greatest = replied_has Agrees (λ why. refl) (made_reply state) refl (create_at state path over)
+answer_agrees state small (calls.Append path bytes) greatest = replied_has Agrees (λ why. refl) Done refl (append_at state path)
+answer_agrees state small (calls.Delete path recursive) greatest = replied_has Agrees (λ why. refl) Done refl (delete_at state path recursive)
+answer_agrees state small (calls.Rename old new) greatest = replied_has Agrees (λ why. refl) Done refl (rename_at state old new)
+answer_agrees state small (calls.SetMode path mode) greatest = replied_has Agrees (λ why. refl) Done refl (set_mode_at state path)
+answer_agrees state small (calls.Read path offset len) greatest = page_agrees (found_file state path) offset len
+answer_agrees state small (calls.ReadNext cursor len) greatest = page_agrees (next_file state cursor.place) cursor.offset len
+answer_agrees state small (calls.Stat path) greatest = stat_has Agrees (λ why. refl) (λ id is_dir mode stamp size. refl) state path
+answer_agrees state small (calls.List path size) greatest =
     let is : size ≡ 1000 = grind (arith, nat_tests) in
-    subst (λ n. goes_on (answer state (calls.List path n)) ≡ false) (sym is) (list_ends state small path)
+    subst (λ n. Agrees (answer state (calls.List path n))) (sym is) (list_agrees state small path)
 
--- ---- calls in turn
+-- ---- no call comes behind a change
 
-not_plain : (reply : Reply) → is_plain_reply reply ≡ false → goes_on reply ≡ false
-not_plain (Made id) is = refl
-not_plain Done is = refl
-not_plain (Stat id is_dir mode stamp size) is = refl
-not_plain (Page items next) is = absurd (cc)
-not_plain (Refused why) is = refl
-not_plain NoMemory is = refl
+IsEnd : Reply → Type 0
+IsEnd reply = next_call reply ≡ None
 
--- as many entries as calls at most
-turn_end_few : (entries : ℕ) (said : List Said) → in_turn entries said ≡ true → turn_end entries said ≤ entries + length said
-turn_end_few entries [] turn = omega arith
-turn_end_few entries (s ∷ said) turn =
-    let here : (s.told.position == entries) ≡ true = both_first (s.told.position == entries) _ turn in
-    let place : s.told.position ≡ entries = grind (arith, nat_tests) in
-    let reach : reach_of s.call s.told ≤ entries + 1 =
-    elim (leaves_entry s.call s.told.reply) as (λ b. s.told.position + cond b 1 0 ≤ entries + 1) [ true ↦ omega (arith, place) | false ↦ omega (arith, place) ] in
-    omega (arith, reach, turn_end_few (reach_of s.call s.told) said (both_second (s.told.position == entries) _ turn))
+pub change_ends : (state : State (List ℕ)) (call : Call) → is_modifying call ≡ true → next_call (answer state call) ≡ None
+unfolding IsEnd
+change_ends state (calls.Mkdir path) change = replied_has IsEnd (λ why. refl) (made_reply state) refl (mkdir_at state path)
+change_ends state (calls.Create path over) change = replied_has IsEnd (λ why. refl) (made_reply state) refl (create_at state path over)
+change_ends state (calls.Append path bytes) change = replied_has IsEnd (λ why. refl) Done refl (append_at state path)
+change_ends state (calls.Delete path recursive) change = replied_has IsEnd (λ why. refl) Done refl (delete_at state path recursive)
+change_ends state (calls.Rename old new) change = replied_has IsEnd (λ why. refl) Done refl (rename_at state old new)
+change_ends state (calls.SetMode path mode) change = replied_has IsEnd (λ why. refl) Done refl (set_mode_at state path)
+change_ends state (calls.Read path offset len) change = absurd (cc)
+change_ends state (calls.ReadNext cursor len) change = absurd (cc)
+change_ends state (calls.Stat path) change = absurd (cc)
+change_ends state (calls.List path size) change = absurd (cc)
 
--- the reply to a call of a script has no cursor
-pub told_last : (calls : List Call) (journal new : List Entry) (items : List LogItem) (call : Call) (seq : ℕ) (answered : Answered) →
-    IsSoFar calls journal items → length calls ≤ 999 → has_greatest_page call ≡ true → IsLegalCall new setup_caller seq call answered → answered.position ≡ length journal →
-    new ≡ journal ++ option_to_list (entry_left setup_caller (record { seq = seq; call = call; told = answered })) → is_last (record { seq = seq; call = call; told = answered }) ≡ true
-told_last calls journal new items call seq answered kept few greatest legal next grows = ap not (by (is_plain_reply answered.reply) refl)
+-- ---- each call of a line is nearer to the end of its file than the one before
+
+-- how far a call is from the greatest offset, with 1 more; calls that a line begins with are farther
+abbrev pub left_of : Call → ℕ
+left_of (calls.ReadNext cursor len) = 1 + (2 ^ 64 - cursor.offset)
+left_of call = 2 + 2 ^ 64
+
+abbrev pub left : Option Call → ℕ
+left None = 0
+left (Some call) = left_of call
+
+pub left_some : (call : Call) → 0 < left_of call
+left_some (calls.Mkdir path) = omega arith
+left_some (calls.Create path over) = omega arith
+left_some (calls.Append path bytes) = omega arith
+left_some (calls.Delete path recursive) = omega arith
+left_some (calls.Rename old new) = omega arith
+left_some (calls.SetMode path mode) = omega arith
+left_some (calls.Read path offset len) = omega arith
+left_some (calls.ReadNext cursor len) = omega arith
+left_some (calls.Stat path) = omega arith
+left_some (calls.List path size) = omega arith
+
+sooner : (top offset len : ℕ) → 1 ≤ len → offset + len < top → 1 + (top - (offset + len)) < 1 + (top - offset)
+sooner top offset len some within = omega arith
+
+below_two : (top offset : ℕ) → 1 + (top - offset) < 2 + top
+below_two top offset = omega arith
+
+next_below : (next : Option ReadCursor) → left (next_of next) < 2 + 2 ^ 64
+next_below None = omega arith
+next_below (Some cursor) = below_two (2 ^ 64) cursor.offset
+
+first_page_falls : (at : Asked (Place × List ℕ)) (offset len : ℕ) → left (next_call (told (at >>= λ a. Ok (page_at plain_files offset len a)))) < 2 + 2 ^ 64
+first_page_falls (Err why) offset len = omega arith
+first_page_falls (Ok at) offset len = next_below (next_read at.0 (length at.1) (offset + len))
+
+read_falls : (place : Place) (size : ℕ) (cursor : ReadCursor) (len : ℕ) → 1 ≤ len → IsWithin (next_of (next_read place size (cursor.offset + len))) → left (next_of (next_read place size (cursor.offset + len))) < 1 + (2 ^ 64 - cursor.offset)
+read_falls place size cursor len some within = by (nat_le size (cursor.offset + len)) within
   where
-    short : length journal ≤ 999
-    short = omega (arith, turn_end_few 0 kept.said kept.turn, kept.ends, few, length-map kept.said (λ (s : Said). s.call), ap length kept.calls_are)
+    by : (b : Bool) → IsWithin (next_of (cond b None (Some (record { place = place; offset = cursor.offset + len })))) → left (next_of (cond b None (Some (record { place = place; offset = cursor.offset + len })))) < 1 + (2 ^ 64 - cursor.offset)
+    by true within = omega arith
+    by false within = sooner (2 ^ 64) cursor.offset len some within
 
-    front : take answered.position new ≡ journal
-    front = ap (λ n. take n new) next ∙ ap (take (length journal)) grows ∙ take-append_seam journal (option_to_list (entry_left setup_caller (record { seq = seq; call = call; told = answered })))
+next_page_falls : (at : Asked (Place × List ℕ)) (cursor : ReadCursor) (len : ℕ) → 1 ≤ len → IsWithin (next_call (told (at >>= λ a. Ok (page_at plain_files cursor.offset len a)))) → left (next_call (told (at >>= λ a. Ok (page_at plain_files cursor.offset len a)))) < 1 + (2 ^ 64 - cursor.offset)
+next_page_falls (Err why) cursor len some within = omega arith
+next_page_falls (Ok at) cursor len some within = read_falls at.0 (length at.1) cursor len some within
 
-    by : (b : Bool) → is_plain_reply answered.reply ≡ b → goes_on answered.reply ≡ false
-    by true is = ap goes_on (legal.answered is) ∙ ap (λ (entries : List Entry). goes_on (answer (plain_after entries) call)) front ∙ ends (plain_after journal) (journal_small journal short) call greatest
-    by false is = not_plain answered.reply is
+ended_falls : (reply : Reply) (n : ℕ) → next_call reply ≡ None → 0 < n → left (next_call reply) < n
+ended_falls reply n ends some = subst (λ next. left next < n) (sym ends) some
 
-all_at : (p : Call → Bool) (calls : List Call) (index : ℕ) (call : Call) → list_all p calls ≡ true → index < length calls → p (get_or calls index call) ≡ true
-all_at p [] index call all within = absurd (omega arith)
-all_at p (here ∷ calls) zero call all within = both_first (p here) _ all
-all_at p (here ∷ calls) (suc index) call all within = all_at p calls index call (both_second (p here) _ all) (omega arith)
-
--- the call at an index was made, with its item
-pub run_grows : (calls : List Call) (index : ℕ) (here : Call) (journal new : List Entry) (items new_items : List LogItem) (call : Call) (item : LogItem) (answered : Answered) →
-    index < length calls → here ≡ get_or calls index here → length calls ≤ 1000 → list_all has_greatest_page calls ≡ true →
-    IsSoFar (take index calls) journal items → call ≡ here →
-    IsLegalCall new setup_caller (index + 1) call answered → answered.position ≡ length journal →
-    new ≡ journal ++ option_to_list (entry_left setup_caller (record { seq = index + 1; call = call; told = answered })) →
-    item ≡ item_of (index + 1) answered → new_items ≡ items ++ item ∷ [] →
-    IsSoFar (take (index + 1) calls) new new_items
-run_grows calls index here journal new items new_items call item answered within there few pages kept is legal next grows made pushed =
-    let front = take index calls in
-    let count : length front ≡ index = length-take-le index calls (omega arith) in
-    let greatest : has_greatest_page call ≡ true = ap has_greatest_page (is ∙ there) ∙ all_at has_greatest_page calls index here pages within in
-    let last = told_last front journal new items call (index + 1) answered kept (omega (arith, count)) greatest legal next grows in
-    let more = so_far_grows front journal new items (record { seq = index + 1; call = call; told = answered }) kept legal next grows (omega (arith, count)) last in
-    let calls_is : front ++ call ∷ [] ≡ take (index + 1) calls =
-    ap (λ (c : Call). front ++ c ∷ []) (is ∙ there) ∙ sym (take_more calls index here within) in
-    let items_is : items ++ item_of (length front + 1) answered ∷ [] ≡ new_items =
-    ap (λ n. items ++ item_of n answered ∷ []) {x = length front + 1} {y = index + 1} (omega (arith, count)) ∙ sym (pushed ∙ ap (λ (i : LogItem). items ++ i ∷ []) made) in
-    subst (λ (is : List LogItem). IsSoFar (take (index + 1) calls) new is) items_is
-    (subst (λ (cs : List Call). IsSoFar cs new (items ++ item_of (length front + 1) answered ∷ [])) calls_is more)
+pub answer_falls : (state : State (List ℕ)) (call : Call) → has_greatest_page call ≡ true → IsWithin (next_call (answer state call)) → left (next_call (answer state call)) < left_of call
+unfolding IsEnd
+answer_falls state (calls.Mkdir path) greatest within = ended_falls (answer state (calls.Mkdir path)) (2 + 2 ^ 64) (change_ends state (calls.Mkdir path) refl) (omega arith)
+answer_falls state (calls.Create path over) greatest within = ended_falls (answer state (calls.Create path over)) (2 + 2 ^ 64) (change_ends state (calls.Create path over) refl) (omega arith)
+answer_falls state (calls.Append path bytes) greatest within = ended_falls (answer state (calls.Append path bytes)) (2 + 2 ^ 64) (change_ends state (calls.Append path bytes) refl) (omega arith)
+answer_falls state (calls.Delete path recursive) greatest within = ended_falls (answer state (calls.Delete path recursive)) (2 + 2 ^ 64) (change_ends state (calls.Delete path recursive) refl) (omega arith)
+answer_falls state (calls.Rename old new) greatest within = ended_falls (answer state (calls.Rename old new)) (2 + 2 ^ 64) (change_ends state (calls.Rename old new) refl) (omega arith)
+answer_falls state (calls.SetMode path mode) greatest within = ended_falls (answer state (calls.SetMode path mode)) (2 + 2 ^ 64) (change_ends state (calls.SetMode path mode) refl) (omega arith)
+answer_falls state (calls.Read path offset len) greatest within = first_page_falls (found_file state path) offset len
+answer_falls state (calls.ReadNext cursor len) greatest within =
+    let is : len ≡ 65536 = grind (arith, nat_tests) in
+    next_page_falls (next_file state cursor.place) cursor len (omega (arith, is)) within
+answer_falls state (calls.Stat path) greatest within = ended_falls (answer state (calls.Stat path)) (2 + 2 ^ 64) (stat_has IsEnd (λ why. refl) (λ id is_dir mode stamp size. refl) state path) (omega arith)
+answer_falls state (calls.List path size) greatest within =
+    ended_falls (answer state (calls.List path size)) (2 + 2 ^ 64)
+    (at_place_has IsEnd (λ why. refl) state path (λ place. items_at state place >>= λ items. Ok (page_of place items None size)) (λ place. then_has IsEnd (λ why. refl) (items_at state place) (λ items. Ok (page_of place items None size)) (λ items. refl)))
+    (omega arith)

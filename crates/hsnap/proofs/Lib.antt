@@ -1,6 +1,8 @@
 pub mod Asked
 pub mod Both
 pub mod Ends
+pub mod Faultless
+pub mod Lines
 pub mod ScriptLines
 pub mod ScriptModes
 pub mod ScriptPages

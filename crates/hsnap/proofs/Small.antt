@@ -1,5 +1,5 @@
 -- A journal of at most 999 entries leads to a state of at most 1,000 nodes, and to no snapshots.
-use Rattle.std.proofs.Common.{◌≡◌, ℕ, suc, ◌+◌, ◌≤◌, Bool, true, false, cond, not, Ok, Err, List, [], ◌∷◌, map, length, refl, ap, arith}
+use Rattle.std.proofs.Common.{◌≡◌, ℕ, suc, ◌+◌, ◌≤◌, Bool, true, false, cond, not, Ok, Err, List, [], ◌∷◌, ◌++◌, map, length, refl, ap, arith}
 use Rattle.std.specs.declared.cmp.Ordering.{Ordering}
 use Rattle.std.specs.declared.cmp.Ordering.TheVariants.{Less, Equal, Greater}
 use Rattle.std.specs.FinMap.Entries.{put, by_order}
@@ -15,8 +15,8 @@ use Rattle.hs_plain.specs.Asked.{Asked}
 use Rattle.hs_plain.specs.Files.{plain_files}
 use Rattle.hs_plain.specs.Tree.{Tree, path_cmp, parent_of}
 use Rattle.hs_plain.specs.State.{start, new_dir}
-use Rattle.hs_plain.specs.Answer.{mkdir_at, create_at, delete_at, rename_at, set_mode_at}
-use Rattle.hs_plain.specs.Change.{restamp, stamped, remode, without, is_under, repath, put_all, moved, new_file, with_node, made_dir, made_file, still_in, removed, renamed, with_mode, if_asked, change, takes_effect, changed, ticked, after}
+use Rattle.hs_plain.specs.Answer.{mkdir_at, create_at, delete_at, rename_at, set_mode_at, append_at}
+use Rattle.hs_plain.specs.Change.{restamp, stamped, remode, without, is_under, repath, put_all, moved, new_file, with_node, made_dir, made_file, still_in, refilled, appended, removed, renamed, with_mode, if_asked, change, takes_effect, changed, ticked, after}
 use Rattle.hs_plain.specs.Replay.{replay_from, plain_after}
 
 -- a state with at most so many nodes, and no snapshots
@@ -92,6 +92,14 @@ module _ (n : ℕ) (state : State (List ℕ)) (small : IsSmall n state) where
         no_members = small.no_members;
       }
 
+  appended_small : (bytes : List ℕ) (at : Names × Node (List ℕ) × List ℕ) → IsSmall (n + 1) (appended plain_files state bytes at)
+  appended_small bytes at =
+      record {
+        few = omega (arith, length-put-le path_cmp at.0 (refilled at.1 (at.2 ++ bytes) (state.tick + 1)) state.tree, small.few);
+        no_snapshottable = small.no_snapshottable;
+        no_members = small.no_members;
+      }
+
   asked_small : {X : Type 0} (change : X → State (List ℕ)) → ((x : X) → IsSmall (n + 1) (change x)) → (asked : Asked X) → IsSmall (n + 1) (if_asked change state asked)
   asked_small change made (Ok x) = made x
   asked_small change made (Err why) = wider
@@ -99,9 +107,12 @@ module _ (n : ℕ) (state : State (List ℕ)) (small : IsSmall n state) where
   change_small : (call : Call) → IsSmall (n + 1) (change plain_files state call)
   change_small (calls.Mkdir path) = asked_small (made_dir state) (λ p. with_node_small p (new_dir state.next_inode (state.tick + 1))) (mkdir_at state path)
   change_small (calls.Create path over) = asked_small (made_file plain_files state) (λ p. with_node_small p (new_file plain_files state.next_inode (state.tick + 1))) (create_at state path over)
+  change_small (calls.Append path bytes) = asked_small (appended plain_files state bytes) (appended_small bytes) (append_at state path)
   change_small (calls.Delete path recursive) = asked_small (removed state) removed_small (delete_at state path recursive)
   change_small (calls.Rename old new) = asked_small (renamed state) renamed_small (rename_at state old new)
   change_small (calls.SetMode path mode) = asked_small (with_mode state mode) (with_mode_small mode) (set_mode_at state path)
+  change_small (calls.Read path offset len) = wider
+  change_small (calls.ReadNext cursor len) = wider
   change_small (calls.Stat path) = wider
   change_small (calls.List path size) = wider
 

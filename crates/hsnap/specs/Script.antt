@@ -43,7 +43,7 @@ mode_of word = if is_octal word && nat_le (digits_value 8 word) 1023 then Some (
 
 -- ---- calls
 
--- the call of a command with one path; a page has 1,000 entries
+-- the call of a command with one path; a page has 1,000 entries or 65,536 bytes
 abbrev pub path_call : List ℕ → List ℕ → Option Call
 path_call command path =
     if bytes_eq command (codes "mkdir") then Some (calls.Mkdir path)
@@ -52,6 +52,7 @@ path_call command path =
     else if bytes_eq command (codes "rm") then Some (calls.Delete path false)
     else if bytes_eq command (codes "rmr") then Some (calls.Delete path true)
     else if bytes_eq command (codes "stat") then Some (calls.Stat path)
+    else if bytes_eq command (codes "cat") then Some (calls.Read path 0 65536)
     else if bytes_eq command (codes "ls") then Some (calls.List path 1000)
     else None
 
@@ -59,10 +60,15 @@ abbrev pub chmod_call : List ℕ → Option ℕ → Option Call
 chmod_call path None = None
 chmod_call path (Some mode) = Some (calls.SetMode path mode)
 
+-- the word's bytes go to a file, at most 65,536
+abbrev pub append_call : List ℕ → List ℕ → Option Call
+append_call path word = if nat_le (length word) 65536 then Some (calls.Append path word) else None
+
 -- the call of a command with a path and one more word
 abbrev pub pair_call : List ℕ → List ℕ → List ℕ → Option Call
 pair_call command path word =
     if bytes_eq command (codes "mv") then Some (calls.Rename path word)
+    else if bytes_eq command (codes "append") then append_call path word
     else if bytes_eq command (codes "chmod") then chmod_call path (mode_of word)
     else None
 

@@ -33,10 +33,10 @@ pub record IsScriptRead (before now : Option (List ℕ)) (calls : List Call) : T
   pub means : script_of bytes ≡ Some calls
 
 -- the bytes read mean a script, the run is one of it in turn, and its text was written
-pub record IsDone (before now written_before written_now : Option (List ℕ)) (ran : Ran) : Type 0 where
+pub record IsDone (source_tells target_tells : Bool) (before now written_before written_now : Option (List ℕ)) (ran : Ran) : Type 0 where
   pub calls : List Call
   pub script : IsScriptRead before now calls
-  pub run : IsRun calls ran
+  pub run : IsRun source_tells target_tells calls ran
   pub text : Takes written_before written_now (text_of ran)
 
 -- the bytes read are no script

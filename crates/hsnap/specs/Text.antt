@@ -6,9 +6,8 @@ use Rattle.hs_types.specs.Refusals.{number_of, refusal_name}
 use Rattle.hs_types.specs.declared.ids.Side.{Side}
 use Rattle.hs_types.specs.declared.ids.Side.TheVariants.{Source, Target}
 use Rattle.hs_types.specs.declared.call.Reply.{Reply}
-use Rattle.hs_types.specs.declared.call.Reply.TheVariants.{Made, Done, Stat, Page, Refused, NoMemory}
+use Rattle.hs_types.specs.declared.call.Reply.TheVariants.{Made, Done, Bytes, Stat, Page, Refused, NoMemory}
 use Rattle.hs_types.specs.declared.call.Item.{Item}
-use Rattle.hs_types.specs.declared.call.ListCursor.{ListCursor}
 use Rattle.hs_types.specs.declared.call.Answered.{Answered}
 use Rattle.hs_types.specs.declared.call.EntryKind.{EntryKind}
 use Rattle.hs_types.specs.declared.call.EntryKind.TheVariants.{Accepted, Faulted}
@@ -21,7 +20,7 @@ use Rattle.hsnap.specs.declared.ran.Section.TheVariants.{Setup, Client, Finish}
 use Rattle.hsnap.specs.declared.ran.LogItem.{LogItem}
 use Rattle.hsnap.specs.declared.ran.LogWhat.{LogWhat}
 use Rattle.hsnap.specs.declared.ran.LogWhat.TheVariants.{Replies}
-use Rattle.hsnap.specs.TextParts.{spaced, ended, indented, escaped, mode_text}
+use Rattle.hsnap.specs.TextParts.{spaced, ended, indented, escaped, shown, mode_text}
 use Rattle.hsnap.specs.CallText.{call_text}
 
 -- which of the two namenodes
@@ -34,7 +33,7 @@ abbrev pub kind_word : Bool → List ℕ
 kind_word is_dir = if is_dir then codes "dir" else codes "file"
 
 -- `more` stands exactly where the reply has a cursor
-abbrev pub more_or_end : Option ListCursor → List ℕ
+abbrev pub more_or_end : {X : Type 0} → Option X → List ℕ
 more_or_end None = codes "end"
 more_or_end (Some cursor) = codes "more"
 
@@ -42,6 +41,7 @@ more_or_end (Some cursor) = codes "more"
 abbrev pub reply_text : Reply → List ℕ
 reply_text (Made id) = spaced (codes "made" ∷ decimal id.0 ∷ [])
 reply_text Done = codes "done"
+reply_text (Bytes bytes next) = spaced (codes "bytes" ∷ decimal (length bytes) ∷ more_or_end next ∷ shown bytes)
 reply_text (Stat id is_dir mode stamp size) = spaced (kind_word is_dir ∷ decimal id.0 ∷ mode_text mode ∷ decimal stamp ∷ decimal size ∷ [])
 reply_text (Page items next) = spaced (codes "page" ∷ decimal (length items) ∷ more_or_end next ∷ [])
 reply_text (Refused why) = spaced (codes "refused" ∷ decimal (number_of why) ∷ refusal_name why ∷ [])
@@ -55,6 +55,7 @@ item_text item = spaced (kind_word item.is_dir ∷ decimal item.id.0 ∷ escaped
 abbrev pub further_lines : Reply → List (List ℕ)
 further_lines (Made id) = []
 further_lines Done = []
+further_lines (Bytes bytes next) = []
 further_lines (Stat id is_dir mode stamp size) = []
 further_lines (Page items next) = map item_text items
 further_lines (Refused why) = []

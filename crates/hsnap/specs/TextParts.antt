@@ -24,6 +24,11 @@ escape_set = record { mask = (2 ^ 32 - 1) + 2 ^ 32 + 2 ^ 35 + 2 ^ 37 + 2 ^ 127 }
 abbrev pub escaped : List ℕ → List ℕ
 escaped text = percent_encode escape_set text
 
+-- bytes as a last word, where there are some
+abbrev pub shown : List ℕ → List (List ℕ)
+shown [] = []
+shown (byte ∷ bytes) = escaped (byte ∷ bytes) ∷ []
+
 -- the last octal digit of a number
 abbrev pub octal_digit : ℕ → ℕ
 octal_digit number = 48 + number % 8

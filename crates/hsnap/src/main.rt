@@ -9,6 +9,7 @@ pub mod serial;
 mod tests;
 pub mod text;
 
+use block_store::SteadyBlocks;
 use hs_io::{StdSink, StdSource};
 use hs_types::{List, NameText, NoMemory};
 use ran::{FaultKind, Status};
@@ -46,7 +47,14 @@ fn main(rt: HostRuntime) -> ExitCode {
     let words = words_of(&rt).unwrap_or(List::new(alloc));
     let mut input = StdSource::new(rt.stdin());
     let mut output = StdSink::new(rt.stdout());
-    let ran = serial::serial(alloc, &words, &mut input, &mut output);
+    let ran = serial::serial(
+        alloc,
+        &words,
+        &mut input,
+        &mut output,
+        SteadyBlocks::new(alloc),
+        SteadyBlocks::new(alloc),
+    );
     let _ = tell(&rt, ran.status);
     ExitCode::from(ran.status.number())
 }

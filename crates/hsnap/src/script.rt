@@ -1,12 +1,12 @@
 //! The reader of scripts in their first form.
 ghost use Rattle.std.specs.Prelude.{◌≡◌, ◌≢◌, ◌≤◌, ◌<◌, ◌∷◌, [], Some, None, IfOk, IfSome, IfNone, IfErr, true, false, length, map};
-ghost use Rattle.hsnap.specs.Script.{is_line_byte, is_full, words as plain_words, is_octal_digit, mode_of as plain_mode_of, path_call as plain_path_call, pair_call as plain_pair_call, call_of_command as plain_call_of_command, call_of_words as plain_call_of_words, call_of as plain_call_of, script_of, script_parts, with_call, is_line_feed};
+ghost use Rattle.hsnap.specs.Script.{is_line_byte, is_full, words as plain_words, is_octal_digit, mode_of as plain_mode_of, path_call as plain_path_call, append_call as plain_append_call, pair_call as plain_pair_call, call_of_command as plain_call_of_command, call_of_words as plain_call_of_words, call_of as plain_call_of, script_of, script_parts, with_call, is_line_feed};
 ghost use Rattle.hsnap.specs.Pages.{has_greatest_page};
 ghost use Rattle.hsnap.specs.ScriptFaults.{IsScriptFault};
 ghost use Rattle.hsnap.specs.declared.script.ScriptFault.TheVariants.{NoMemory as fault_no_memory};
 ghost use Rattle.std.specs.List.{slice_split, list_all, position};
 
-use hs_types::{Call, List, Mode, NoMemory, PageSize, PathText};
+use hs_types::{Call, Chunk, List, Mode, NoMemory, PageSize, PathText, ReadLen};
 use std::alloc::{AllocError, AllocFailed, Global};
 
 /// Why an input isn't read as a script.
@@ -109,6 +109,16 @@ fn path_text(alloc: Global, word: &str) -> Result<PathText, NoMemory>
     Ok(PathText::new(String::from_str(alloc, word)?))
 }
 
+/// The greatest read, of 65,536 bytes.
+pub(crate) fn greatest_read() -> ReadLen
+    ensures { result ≡ 65536 }
+{
+    match ReadLen::new(ReadLen::GREATEST) {
+        Some(len) => len,
+        None => unreachable!(),
+    }
+}
+
 /// The call of a command with one path.
 fn path_call(command: &str, path: PathText) -> Option<Call>
     ensures { result ≡ plain_path_call command.now path }
@@ -126,11 +136,30 @@ fn path_call(command: &str, path: PathText) -> Option<Call>
             recursive: true,
         }),
         "stat" => Some(Call::Stat { path }),
+        "cat" => Some(Call::Read {
+            path,
+            offset: 0,
+            len: greatest_read(),
+        }),
         "ls" => Some(Call::List {
             path,
             size: PageSize::greatest(),
         }),
         _ => None,
+    }
+}
+
+/// The call that adds a word's bytes to a file, unless they are too many.
+fn append_call(alloc: Global, path: PathText, word: &str) -> Result<Option<Call>, NoMemory>
+    ensures { IfOk result (λ call. call ≡ plain_append_call path word.now) }
+{
+    if word.len() > Chunk::GREATEST {
+        return Ok(None);
+    }
+    let bytes = Vec::from_slice(alloc, word.as_bytes())?;
+    match Chunk::new(bytes) {
+        Ok(bytes) => Ok(Some(Call::Append { path, bytes })),
+        Err(_) => unreachable!(),
     }
 }
 
@@ -148,6 +177,7 @@ fn pair_call(
             old: path,
             new: path_text(alloc, word)?,
         })),
+        "append" => append_call(alloc, path, word),
         "chmod" => match mode_of(word) {
             Some(mode) => Ok(Some(Call::SetMode { path, mode })),
             None => Ok(None),

@@ -1,5 +1,5 @@
 //! The top call: from bytes to bytes, one call after the other.
-ghost use Rattle.std.specs.Prelude.{◌≡◌, ◌≤◌, ◌↔◌, true, false, List, ℕ, Option, Some, length, IfOk, IfErr, OnOk, OnErr};
+ghost use Rattle.std.specs.Prelude.{◌≡◌, ◌≤◌, ◌↔◌, true, false, List, [], ℕ, Option, Some, is_some, length, IfOk, IfErr, IfSome, OnOk, OnErr};
 ghost use Rattle.std.specs.List.{list_all};
 ghost use Rattle.hs_io.specs.Bytes.{Takes};
 ghost use Rattle.hs_io.specs.Faults.{Rose};
@@ -15,6 +15,7 @@ use crate::ran::{End, FaultKind, Ran, Status};
 use crate::runner;
 use crate::script::{self, ScriptFault};
 use crate::text::text_of;
+use block_store::BlockStore;
 use hs_io::{InputErr, Sink, SinkErr, Source, read_all, write_all};
 use hs_types::{Call, Counts, List, NameText, NoMemory};
 use std::alloc::Global;
@@ -101,16 +102,24 @@ fn write_text<O: Sink>(alloc: Global, ran: &Ran, output: &mut O) -> Status
     }
 }
 
-/// Runs a script, and writes the text of the run.
-fn run_and_write<O: Sink>(alloc: Global, calls: &List<Call>, output: &mut O) -> Ran
+/// Runs a script over two stores without blocks, and writes the text of the run.
+fn run_and_write<O: Sink, B: BlockStore>(
+    alloc: Global,
+    calls: &List<Call>,
+    output: &mut O,
+    source_blocks: B,
+    target_blocks: B,
+) -> Ran
     requires few { length calls.now ≤ 1000 }
     requires pages { list_all has_greatest_page calls.now ≡ true }
-    ensures ok { result.status ≡ Status.Ok → IsRun calls.now result × Takes (O.written output.old) (O.written output.new) (plain_text_of result) }
+    requires source_empty { IfSome (B.blocks source_blocks) (λ map. map ≡ []) }
+    requires target_empty { IfSome (B.blocks target_blocks) (λ map. map ≡ []) }
+    ensures ok { result.status ≡ Status.Ok → IsRun (is_some (B.blocks source_blocks)) (is_some (B.blocks target_blocks)) calls.now result × Takes (O.written output.old) (O.written output.new) (plain_text_of result) }
     ensures cause { result.status ≡ Status.WriteFault → Rose (O.faults output.old) (O.faults output.new) }
     ensures late { is_early result.status ≡ false }
     ensures count { O.faults output.old ≤ O.faults output.new }
 {
-    match runner::run(alloc, calls) {
+    match runner::run(alloc, calls, source_blocks, target_blocks) {
         Ok(mut ran) => {
             ran.status = write_text(alloc, &ran, output);
             ran
@@ -120,16 +129,24 @@ fn run_and_write<O: Sink>(alloc: Global, calls: &List<Call>, output: &mut O) -> 
 }
 
 /// Reads a script from `input`, runs it on two new namenodes, one call after the other, and writes the text
-/// of the run to `output`. `words` are the words of the command line, without the program's own name.
-pub fn serial<I: Source, O: Sink>(
+/// of the run to `output`. `words` are the words of the command line, without the program's own name. The bytes of
+/// files are kept in two stores, which hold no block yet.
+pub fn serial<I: Source, O: Sink, B: BlockStore>(
     alloc: Global,
     words: &List<NameText>,
     input: &mut I,
     output: &mut O,
+    source_blocks: B,
+    target_blocks: B,
 ) -> Ran
+    // A store that tells its blocks has none yet.
+    requires source_empty { IfSome (B.blocks source_blocks) (λ map. map ≡ []) }
+    requires target_empty { IfSome (B.blocks target_blocks) (λ map. map ≡ []) }
+
     // With status Ok the bytes read, to the end of the input, mean a script; the answer is a run of it in turn;
-    // and what was written is the text of that run.
-    ensures ok { result.status ≡ Status.Ok → IsDone (I.rest input.old) (I.rest input.new) (O.written output.old) (O.written output.new) result }
+    // and what was written is the text of that run. Of a side whose store doesn't tell its blocks, the bytes that replies
+    // hold are not claimed.
+    ensures ok { result.status ≡ Status.Ok → IsDone (is_some (B.blocks source_blocks)) (is_some (B.blocks target_blocks)) (I.rest input.old) (I.rest input.new) (O.written output.old) (O.written output.new) result }
 
     // The causes of the other statuses. Want of memory is free.
     ensures usage { (result.status ≡ Status.Usage) ↔ (is_plain_serial words.now ≡ false) }
@@ -158,7 +175,7 @@ pub fn serial<I: Source, O: Sink>(
         return unrun(alloc, Status::Usage);
     }
     match read_script(alloc, input) {
-        Ok(calls) => run_and_write(alloc, &calls, output),
+        Ok(calls) => run_and_write(alloc, &calls, output, source_blocks, target_blocks),
         Err(status) => unrun(alloc, status),
     }
 }

@@ -1,17 +1,21 @@
 //! The text of a run.
-ghost use Rattle.std.specs.Prelude.{◌≡◌, ◌++◌, ℕ, List, IfOk, OnOk, string_bytes, map};
+ghost use Rattle.std.specs.Prelude.{◌≡◌, ◌++◌, ◌∷◌, ℕ, List, IfOk, OnOk, codes, length, string_bytes, map};
+ghost use Rattle.std.specs.Fmt.{decimal};
 ghost use Rattle.std.specs.List.{flat_map};
 ghost use Rattle.percent_encoding.specs.Iter.{encoded_text};
-ghost use Rattle.hsnap.specs.TextParts.{ended, indented, escaped, mode_text};
+ghost use Rattle.hsnap.specs.TextParts.{spaced, ended, indented, escaped, shown, mode_text};
+ghost use Rattle.hs_types.specs.declared.call.Call.TheVariants as calls;
 ghost use Rattle.hsnap.specs.CallText.{create_word, delete_word, call_text};
 ghost use Rattle.hsnap.specs.Text.{side_word, kind_word, more_or_end, reply_text, item_text, further_lines, reply_line, answered_lines, item_lines, heading, log_lines, marked, entry_line, journal_lines, node_name, dir_line, file_line, node_line, tree_lines, text_of};
 
 use crate::ran::{ClientLog, LogItem, LogWhat, Ran, Section};
 use hs_types::{
-    Answered, Call, Entry, EntryKind, Item, List, ListCursor, Mode, Name, NoMemory, Reply, Side,
-    TreeLine,
+    Answered, Call, Entry, EntryKind, Item, List, Mode, Name, NoMemory, Place, ReadCursor, ReadLen,
+    Reply, Side, TreeLine,
 };
-use percent_encoding::{AsciiSet, CONTROLS, PercentEncode, ascii_set, utf8_percent_encode};
+use percent_encoding::{
+    AsciiSet, CONTROLS, PercentEncode, ascii_set, percent_encode, utf8_percent_encode,
+};
 use std::alloc::Global;
 
 /// The ASCII bytes of a text that are escaped: controls, space, `#` and `%`.
@@ -109,6 +113,7 @@ fn write_reply(out: &mut String, reply: &Reply) -> Result<(), NoMemory>
     match reply {
         Reply::Made { id } => writeln!(out, "made {}", id.0)?,
         Reply::Done => out.push_str("done\n")?,
+        Reply::Bytes { bytes, next } => write_bytes(out, bytes.bytes(), more_or_end(next))?,
         Reply::Stat {
             id,
             is_dir,
@@ -129,6 +134,20 @@ fn write_reply(out: &mut String, reply: &Reply) -> Result<(), NoMemory>
     Ok(())
 }
 
+/// A page of a file: the number of its bytes, whether there are more, and the bytes, where there are some.
+fn write_bytes(out: &mut String, bytes: &[u8], end: &str) -> Result<(), NoMemory>
+    ensures { OnOk result (string_bytes out.new ≡ string_bytes out.old ++ ended (spaced (codes "bytes" ∷ decimal (length bytes.now) ∷ end.now ∷ shown bytes.now))) }
+{
+    match bytes {
+        [] => writeln!(out, "bytes {} {end}", bytes.len())?,
+        [..] => {
+            let shown = percent_encode(bytes, ESCAPED);
+            writeln!(out, "bytes {} {end} {shown}", bytes.len())?
+        }
+    }
+    Ok(())
+}
+
 fn write_further_lines(out: &mut String, reply: &Reply) -> Result<(), NoMemory>
     ensures { OnOk result (string_bytes out.new ≡ string_bytes out.old ++ flat_map ended (map indented (further_lines reply.now))) }
 {
@@ -136,6 +155,7 @@ fn write_further_lines(out: &mut String, reply: &Reply) -> Result<(), NoMemory>
         Reply::Page { items, .. } => write_page_items(out, items.items()),
         Reply::Made { .. }
         | Reply::Done
+        | Reply::Bytes { .. }
         | Reply::Stat { .. }
         | Reply::Refused(_)
         | Reply::NoMemory => Ok(()),
@@ -187,6 +207,7 @@ fn write_call(out: &mut String, call: &Call) -> Result<(), NoMemory>
         Call::Create { path, over } => {
             writeln!(out, "{} {}", create_word(*over), escaped(path.text()))?
         }
+        Call::Append { path, bytes } => write_append(out, path.text(), bytes.bytes())?,
         Call::Delete { path, recursive } => {
             writeln!(out, "{} {}", delete_word(*recursive), escaped(path.text()))?
         }
@@ -198,8 +219,52 @@ fn write_call(out: &mut String, call: &Call) -> Result<(), NoMemory>
             write_mode(out, *mode)?;
             out.push_str("\n")?
         }
+        Call::Read { path, offset, len } => {
+            writeln!(
+                out,
+                "read {} {offset} {}",
+                escaped(path.text()),
+                len.bytes()
+            )?
+        }
+        Call::ReadNext { cursor, len } => write_read_next(out, *cursor, *len)?,
         Call::Stat { .. } => out.push_str("stat\n")?,
         Call::List { .. } => out.push_str("list\n")?,
+    }
+    Ok(())
+}
+
+/// An append: the path, the number of the bytes, and the bytes, where there are some.
+fn write_append(out: &mut String, path: &str, bytes: &[u8]) -> Result<(), NoMemory>
+    ensures { OnOk result (string_bytes out.new ≡ string_bytes out.old ++ ended (call_text (calls.Append path.now bytes.now))) }
+{
+    let path = escaped(path);
+    match bytes {
+        [] => writeln!(out, "append {path} {}", bytes.len())?,
+        [..] => {
+            let shown = percent_encode(bytes, ESCAPED);
+            writeln!(out, "append {path} {} {shown}", bytes.len())?
+        }
+    }
+    Ok(())
+}
+
+/// A further page of a read: where it begins, and how many bytes it has at most.
+fn write_read_next(out: &mut String, cursor: ReadCursor, len: ReadLen) -> Result<(), NoMemory>
+    ensures { OnOk result (string_bytes out.new ≡ string_bytes out.old ++ ended (call_text (calls.ReadNext cursor len))) }
+{
+    let offset = cursor.offset;
+    let len = len.bytes();
+    match cursor.place {
+        Place::Live(id) => writeln!(out, "readnext live {} {offset} {len}", id.0)?,
+        Place::Frozen(id, snapshot) => {
+            writeln!(
+                out,
+                "readnext frozen {} {} {offset} {len}",
+                id.0, snapshot.0
+            )?
+        }
+        Place::SnapshotsOf(id) => { writeln!(out, "readnext snapshots {} {offset} {len}", id.0)? }
     }
     Ok(())
 }
@@ -277,7 +342,7 @@ fn delete_word(recursive: bool) -> &'static str
     if recursive { "rmr" } else { "rm" }
 }
 
-fn more_or_end(next: &Option<ListCursor>) -> &'static str
+fn more_or_end<T>(next: &Option<T>) -> &'static str
     ensures { result.now ≡ more_or_end next.now }
 {
     match next {

@@ -1,6 +1,8 @@
 use super::*;
 use crate::ran::{End, Status};
-use hs_types::{CallerId, Counts, InodeId, NameText, PageSize, PathText, Place, Refusal};
+use hs_types::{
+    CallerId, Chunk, Counts, InodeId, ListCursor, NameText, PageSize, PathText, Refusal, SnapId,
+};
 use std::test::Fail;
 
 const NO_COUNTS: Counts = Counts {
@@ -260,5 +262,75 @@ fn names_are_escaped_and_pages_go_on(rt: HostRuntime) -> Result<(), Fail> {
         tree t 1\n\
         1 dir 14 0755 3 %C3%A9%25\n";
     assert_eq!(rt; text.items(), wanted.as_bytes());
+    Ok(())
+}
+
+fn call_text(alloc: Global, call: &Call) -> Result<String, Fail> {
+    let mut out = String::new(alloc);
+    write_call(&mut out, call)?;
+    Ok(out)
+}
+
+fn chunk_of(alloc: Global, bytes: &[u8]) -> Result<Chunk, Fail> {
+    match Chunk::new(Vec::from_slice(alloc, bytes)?) {
+        Ok(chunk) => Ok(chunk),
+        Err(_) => Err("a chunk".into()),
+    }
+}
+
+#[test]
+fn bytes_stand_last_and_escaped(rt: HostRuntime) -> Result<(), Fail> {
+    let alloc = rt.alloc();
+    for (bytes, append, page) in [
+        (b"".as_slice(), "append /a%20b 0\n", "bytes 0 end\n"),
+        (
+            b"\x00 #%\x7F\xFFz/",
+            "append /a%20b 8 %00%20%23%25%7F%FFz/\n",
+            "bytes 8 end %00%20%23%25%7F%FFz/\n",
+        ),
+    ] {
+        let path = path_of(alloc, "/a b")?;
+        let call = Call::Append {
+            path,
+            bytes: chunk_of(alloc, bytes)?,
+        };
+        assert_eq!(rt; call_text(alloc, &call)?.as_str(), append);
+        let bytes = chunk_of(alloc, bytes)?;
+        let mut out = String::new(alloc);
+        write_reply(&mut out, &Reply::Bytes { bytes, next: None })?;
+        assert_eq!(rt; out.as_str(), page);
+    }
+    Ok(())
+}
+
+#[test]
+fn reads_print_their_numbers(rt: HostRuntime) -> Result<(), Fail> {
+    let alloc = rt.alloc();
+    let len = ReadLen::new(7).ok_or("a length")?;
+    let path = path_of(alloc, "/a b")?;
+    let read = Call::Read {
+        path,
+        offset: 5,
+        len,
+    };
+    assert_eq!(rt; call_text(alloc, &read)?.as_str(), "read /a%20b 5 7\n");
+    for (place, text) in [
+        (Place::Live(InodeId(2)), "readnext live 2 65536 7\n"),
+        (
+            Place::Frozen(InodeId(3), SnapId(4)),
+            "readnext frozen 3 4 65536 7\n",
+        ),
+        (
+            Place::SnapshotsOf(InodeId(5)),
+            "readnext snapshots 5 65536 7\n",
+        ),
+    ] {
+        let cursor = ReadCursor {
+            place,
+            offset: 65536,
+        };
+        let call = Call::ReadNext { cursor, len };
+        assert_eq!(rt; call_text(alloc, &call)?.as_str(), text);
+    }
     Ok(())
 }

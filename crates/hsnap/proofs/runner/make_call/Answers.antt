@@ -1,4 +1,9 @@
+use Rattle.std.specs.Prelude.{is_some}
+use Rattle.hsnap.proofs.Asked.{none_grows}
 use Rattle.hsnap.proofs.runner.make_call.Goals as goal
 
 pub returns-else-is_exclusive-clause-legal : goal.returns-else-is_exclusive-clause-legal
-returns-else-is_exclusive-clause-legal c = c.ask.ensures.legal c.args.seq
+returns-else-is_exclusive-clause-legal g c = c.ask.ensures.legal (is_some (g.B.BlockStore.blocks c.args.namenode.now.store)) c.args.seq
+
+pub returns-else-is_exclusive-clause-appended : goal.returns-else-is_exclusive-clause-appended
+returns-else-is_exclusive-clause-appended g c = none_grows c.args.namenode.now.entries c.args.seq c.args.call c.ask.result c.ask.ensures.none
