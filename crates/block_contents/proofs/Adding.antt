@@ -6,7 +6,8 @@ use Rattle.std.proofs.lemmas.Bool.{cases_Bool}
 use Rattle.std.proofs.lemmas.Bool.Decides.{nat_tests}
 use Rattle.std.proofs.lemmas.List.{length_push, drop_all}
 use Rattle.std.proofs.lemmas.Map.Keys.{IsDistinct-head, IsDistinct-tail, IsDistinct-cons}
-use Rattle.hs_types.specs.Blocks.{BlockMap, IsFile, find, bytes_of, file_bytes, HoldsFile, same_block, block_size, blocks_for}
+use Rattle.hs_types.specs.Blocks.{BlockMap, IsFile, find, bytes_of, file_bytes, HoldsFile, same_block, blocks_for}
+use Rattle.hs_types.specs.Limits.{block_size}
 use Rattle.hs_types.specs.declared.ids.BlockId.{BlockId}
 use Rattle.block_store.specs.Changes.{Changes, Sets, Writes, with_bytes_at}
 use Rattle.block_contents.specs.Contents.{AtMost, Appended, KeepsFile, KeepsAll}

@@ -3,7 +3,8 @@ use Rattle.std.proofs.Common.{◌≡◌, ℕ, ◌+◌, ◌-◌, ◌*◌, ◌%◌
 use Rattle.std.specs.Option.{unwrap_or}
 use Rattle.std.proofs.Math.Seq.{take-append-add, take-append_seam}
 use Rattle.std.proofs.lemmas.List.{length-take-le}
-use Rattle.hs_types.specs.Blocks.{BlockMap, IsFile, find, bytes_of, joined, Holds, HoldsFile, same_block, block_size}
+use Rattle.hs_types.specs.Blocks.{BlockMap, IsFile, find, bytes_of, joined, Holds, HoldsFile, same_block}
+use Rattle.hs_types.specs.Limits.{block_size}
 use Rattle.hs_types.specs.declared.ids.BlockId.{BlockId}
 use Rattle.block_store.specs.Changes.{Reaches, Sets, Writes, Spoils, with_bytes_at}
 use Rattle.block_contents.specs.Contents.{is_last, before_last, Appended, KeepsFile}

@@ -5,7 +5,8 @@ use Rattle.std.proofs.Math.Seq.{drop-append-add, take-add, take-length}
 use Rattle.std.proofs.lemmas.Slice.{put_mid-paste}
 use Rattle.std.proofs.lemmas.Bool.{cases_lt}
 use Rattle.std.proofs.lemmas.List.{take_all, drop_all, take_at, take-take, take-append-le, drop-append-le, drop-take, drop-drop}
-use Rattle.hs_types.specs.Blocks.{BlockMap, find, bytes_of, joined, Holds, HoldsFile, block_size}
+use Rattle.hs_types.specs.Blocks.{BlockMap, find, bytes_of, joined, Holds, HoldsFile}
+use Rattle.hs_types.specs.Limits.{block_size}
 use Rattle.hs_types.specs.declared.ids.BlockId.{BlockId}
 use Rattle.block_store.specs.Changes.{Reaches}
 use Rattle.block_contents.proofs.Whole.{holds_least, holds_most}

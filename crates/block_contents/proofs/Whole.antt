@@ -5,7 +5,8 @@ use Rattle.std.specs.List.{AllByRecursion, IsDistinct}
 use Rattle.std.proofs.lemmas.Bool.Decides.{nat_tests}
 use Rattle.std.proofs.lemmas.Map.Keys.{IsDistinct-head, IsDistinct-tail}
 use Rattle.std.proofs.Math.Seq.{take-append-add}
-use Rattle.hs_types.specs.Blocks.{BlockMap, find, bytes_of, joined, file_bytes, Holds, HoldsFile, same_block, block_size}
+use Rattle.hs_types.specs.Blocks.{BlockMap, find, bytes_of, joined, file_bytes, Holds, HoldsFile, same_block}
+use Rattle.hs_types.specs.Limits.{block_size}
 use Rattle.hs_types.specs.declared.ids.BlockId.{BlockId}
 use Rattle.block_contents.specs.Contents.{is_last, KeepsAll}
 

@@ -1,7 +1,8 @@
 -- What an append makes of a file's blocks.
 use Rattle.std.specs.Prelude.{◌≡◌, ℕ, ◌+◌, ◌-◌, ◌*◌, ◌<◌, ◌≤◌, ◌==◌, nat_lt, Bool, true, false, ◌&&◌, ◌||◌, List, [], ◌∷◌, ◌++◌, length, take, is_some, IsSome}
 use Rattle.std.specs.List.{AllByRecursion}
-use Rattle.hs_types.specs.Blocks.{BlockMap, HoldsFile, file_bytes, find, bytes_of, same_block, block_size}
+use Rattle.hs_types.specs.Blocks.{BlockMap, HoldsFile, file_bytes, find, bytes_of, same_block}
+use Rattle.hs_types.specs.Limits.{block_size}
 use Rattle.hs_types.specs.declared.ids.BlockId.{BlockId}
 
 -- each block of the list has at most this number

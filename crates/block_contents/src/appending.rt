@@ -1,9 +1,10 @@
 //! Appends to a file: the last block is filled, and what is left goes into one more.
 ghost use Rattle.std.specs.Prelude.{◌≡◌, ◌+◌, ◌-◌, ◌*◌, ◌^◌, ◌<◌, ◌≤◌, [], length, slice_index_or, IfOk, IfSome, OnOk, OnErr, IsErrOf};
 ghost use Rattle.std.specs.Vec.{vec_len, vec_capacity};
-ghost use Rattle.hs_types.specs.Blocks.{IsFile, HoldsFile, block_size, blocks_for};
+ghost use Rattle.hs_types.specs.Blocks.{IsFile, HoldsFile, blocks_for};
+ghost use Rattle.hs_types.specs.Limits.{block_size};
 ghost use Rattle.block_store.specs.Changes.{Changes};
-ghost use Rattle.block_store.specs.Faults.{Rose};
+ghost use Rattle.hs_types.specs.Faults.{Rose};
 ghost use Rattle.block_contents.specs.Contents.{Appended, KeepsFile, KeepsAll, SameBlocks, MakesOnly, Adds, AtMost};
 
 use crate::BLOCK_SIZE;

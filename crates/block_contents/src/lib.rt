@@ -9,6 +9,3 @@ pub use reading::read;
 
 /// How many bytes a block has.
 const BLOCK_SIZE: u64 = 65536;
-
-#[cfg(test)]
-mod tests;

@@ -1,7 +1,8 @@
 //! Reads of a file.
 ghost use Rattle.std.specs.Prelude.{◌≡◌, ◌+◌, ◌-◌, ◌*◌, ◌<◌, ◌≤◌, min, length, slice_index_or, take, drop, IfOk, IfSome, OnOk, IsErrOf};
-ghost use Rattle.hs_types.specs.Blocks.{IsFile, HoldsFile, block_size, file_bytes, joined};
-ghost use Rattle.block_store.specs.Faults.{Rose};
+ghost use Rattle.hs_types.specs.Blocks.{IsFile, HoldsFile, file_bytes, joined};
+ghost use Rattle.hs_types.specs.Limits.{block_size};
+ghost use Rattle.hs_types.specs.Faults.{Rose};
 
 use crate::BLOCK_SIZE;
 use block_store::{BlockStore, StoreErr};

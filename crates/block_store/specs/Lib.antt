@@ -1,4 +1,3 @@
 pub mod Changes
 pub mod Errors
-pub mod Faults
 pub mod Memory

@@ -3,13 +3,9 @@
 
 mod kept_blocks;
 pub mod mem_blocks;
-mod schedule;
 pub mod steady_blocks;
 pub mod store;
 
 pub use mem_blocks::MemBlocks;
 pub use steady_blocks::SteadyBlocks;
 pub use store::{BlockStore, StoreErr};
-
-#[cfg(test)]
-mod tests;

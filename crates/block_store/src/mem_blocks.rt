@@ -2,12 +2,11 @@
 ghost use Rattle.std.specs.Prelude.{◌≡◌, ◌+◌, ◌-◌, ◌^◌, ◌≤◌, ◌↔◌, [], None, Some, length, take, drop, IfOk, IsErr, OnOk, OnErr, IsErrOf, IsTrue};
 ghost use Rattle.hs_types.specs.Blocks.{find, bytes_of};
 ghost use Rattle.block_store.specs.Changes.{Reaches, Sets, Writes};
-ghost use Rattle.block_store.specs.Faults.{one_more, fails_next};
+ghost use Rattle.hs_types.specs.Faults.{one_more, fails_next};
 
 use crate::kept_blocks::KeptBlocks;
-use crate::schedule::Schedule;
 use crate::store::{BlockStore, StoreErr};
-use hs_types::{BlockId, List};
+use hs_types::{BlockId, List, Schedule};
 use std::alloc::Global;
 use std::marker::Model;
 

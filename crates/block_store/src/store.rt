@@ -1,10 +1,11 @@
 //! What a store of blocks is.
 ghost use Rattle.std.specs.Prelude.{◌≡◌, ◌+◌, ◌-◌, ◌^◌, ◌<◌, ◌≤◌, ℕ, Option, [], None, Some, codes, length, take, drop, IfOk, IfSome, IsErr, OnOk, OnErr, IsErrOf};
-ghost use Rattle.hs_types.specs.Blocks.{BlockMap, block_size, find, bytes_of};
+ghost use Rattle.hs_types.specs.Blocks.{BlockMap, find, bytes_of};
+ghost use Rattle.hs_types.specs.Limits.{block_size};
 ghost use Rattle.block_store.specs.declared.store.StoreErr.TheVariants.{NoMemory as no_memory};
 ghost use Rattle.block_store.specs.Changes.{Changes, Reaches, Sets, Writes, Spoils};
 ghost use Rattle.block_store.specs.Errors.{store_err_text};
-ghost use Rattle.block_store.specs.Faults.{Rose};
+ghost use Rattle.hs_types.specs.Faults.{Rose};
 
 use hs_types::{BlockId, NoMemory};
 use std::error::Error;

@@ -3,7 +3,7 @@ ghost use Rattle.std.specs.Prelude.{◌≡◌, ◌+◌, ◌<◌, ◌≤◌, List
 ghost use Rattle.hs_io.specs.declared.input.InputErr.TheVariants.{Failed as failed, NoMemory as no_memory};
 ghost use Rattle.hs_io.specs.Bytes.{Gives, IsEnded};
 ghost use Rattle.hs_io.specs.Errors.{input_err_text};
-ghost use Rattle.hs_io.specs.Faults.{Rose};
+ghost use Rattle.hs_types.specs.Faults.{Rose};
 
 use hs_types::{List, NoMemory};
 use std::alloc::{AllocError, Global};

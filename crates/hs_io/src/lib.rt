@@ -5,7 +5,6 @@ pub mod input;
 pub mod mem_sink;
 pub mod mem_source;
 pub mod output;
-mod schedule;
 pub mod standard;
 
 pub use input::{Failed, InputErr, Source, read_all};
@@ -13,6 +12,3 @@ pub use mem_sink::MemSink;
 pub use mem_source::MemSource;
 pub use output::{Sink, SinkErr, write_all};
 pub use standard::{StdSink, StdSource};
-
-#[cfg(test)]
-mod tests;

@@ -1,11 +1,9 @@
 //! A sink in memory, of which chosen calls fail.
 ghost use Rattle.std.specs.Prelude.{◌≡◌, ◌≤◌, ◌↔◌, [], ◌++◌, length, Some, IfOk, OnOk, OnErr, IsErrOf, IsTrue};
-ghost use Rattle.hs_io.specs.Faults.{one_more};
-ghost use Rattle.hs_io.specs.Memory.{fails_next};
+ghost use Rattle.hs_types.specs.Faults.{one_more, fails_next};
 
 use crate::output::{Sink, SinkErr};
-use crate::schedule::Schedule;
-use hs_types::{List, NoMemory};
+use hs_types::{List, NoMemory, Schedule};
 use std::alloc::Global;
 use std::marker::Model;
 use std::mem;
@@ -58,7 +56,9 @@ impl Sink for MemSink {
         ensures no_memory { IsErrOf result SinkErr.NoMemory → self.new ≡ record self.old { calls = one_more self.old.calls } }
         ensures count { self.old.faults ≤ self.new.faults }
     {
-        self.schedule.next_call()?;
+        if self.schedule.next_fails() {
+            return Err(SinkErr::Failed);
+        }
         append(self.alloc, &mut self.written, bytes)?;
         Ok(bytes.len())
     }

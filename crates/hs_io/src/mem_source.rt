@@ -1,11 +1,9 @@
 //! A source in memory, of which chosen calls fail.
 ghost use Rattle.std.specs.Prelude.{◌≡◌, ◌≤◌, ◌↔◌, ◌++◌, min, length, take, drop, Some, IfOk, OnErr, IsErr, IsTrue};
-ghost use Rattle.hs_io.specs.Faults.{one_more};
-ghost use Rattle.hs_io.specs.Memory.{fails_next};
+ghost use Rattle.hs_types.specs.Faults.{one_more, fails_next};
 
 use crate::input::{Failed, Source};
-use crate::schedule::Schedule;
-use hs_types::List;
+use hs_types::{List, Schedule};
 use std::alloc::Global;
 use std::marker::Model;
 
@@ -55,7 +53,9 @@ impl Source for MemSource {
         ensures fault { OnErr result (self.new ≡ record self.old { calls = one_more self.old.calls; faults = one_more self.old.faults }) }
         ensures count { self.old.faults ≤ self.new.faults }
     {
-        self.schedule.next_call()?;
+        if self.schedule.next_fails() {
+            return Err(Failed);
+        }
         let rest = &self.bytes.items()[self.given..];
         let n = rest.len().min(out.len());
         out[..n].copy_from_slice(&rest[..n]);

@@ -3,7 +3,7 @@ ghost use Rattle.std.specs.Prelude.{◌≡◌, ◌<◌, ◌≤◌, List, ℕ, Op
 ghost use Rattle.hs_io.specs.declared.output.SinkErr.TheVariants.{Failed as failed, NoMemory as no_memory};
 ghost use Rattle.hs_io.specs.Bytes.{Takes};
 ghost use Rattle.hs_io.specs.Errors.{sink_err_text};
-ghost use Rattle.hs_io.specs.Faults.{Rose};
+ghost use Rattle.hs_types.specs.Faults.{Rose};
 
 use crate::input::Failed;
 use hs_types::NoMemory;

@@ -2,7 +2,7 @@
 //! the trusted edge.
 ghost use Rattle.std.specs.Prelude.{◌≡◌, ◌<◌, ◌≤◌, None, length, IfOk, OnOk, OnErr};
 ghost use Rattle.std.specs.Io.KnownBytes.{ReadConsumes, WriteAppends};
-ghost use Rattle.hs_io.specs.Faults.{one_more};
+ghost use Rattle.hs_types.specs.Faults.{one_more};
 
 use crate::input::{Failed, Source};
 use crate::output::{Sink, SinkErr};

@@ -1,8 +1,8 @@
 -- Insertion by name, and by path, at a place that is counted from the front.
-use Rattle.std.proofs.Common.{◌≡◌, ℕ, suc, ◌+◌, Bool, true, false, cond, List, [], ◌∷◌, ◌++◌, take, drop, refl, ap, sym, ◌∙◌, arith}
+use Rattle.std.proofs.Common.{◌≡◌, suc, ◌+◌, Bool, true, false, cond, List, [], ◌∷◌, refl, ap, sym, ◌∙◌, arith}
 use Rattle.std.specs.Prelude.{insert}
 use Rattle.std.specs.List.{prefix_len}
-use Rattle.hs_types.specs.declared.call.Item.{Item}
+use Rattle.hs_types.specs.declared.reply.Item.{Item}
 use Rattle.hs_plain.specs.State.{is_lesser, with_item}
 
 pub with_item_at : (item : Item) (items : List Item) → insert items (prefix_len (is_lesser item.name) items) item ≡ with_item item items

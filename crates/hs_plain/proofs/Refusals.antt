@@ -2,8 +2,8 @@
 use Rattle.std.proofs.Common.{◌≡◌, true, Result, Ok, Err, refl, sym, ◌∙◌}
 use Rattle.hs_types.specs.declared.call.Call.{Call}
 use Rattle.hs_types.specs.declared.call.Call.TheVariants as calls
-use Rattle.hs_types.specs.declared.call.Reply.{Reply}
-use Rattle.hs_types.specs.declared.call.Refusal.{Refusal}
+use Rattle.hs_types.specs.declared.reply.Reply.{Reply}
+use Rattle.hs_types.specs.declared.refusal.Refusal.{Refusal}
 use Rattle.hs_plain.specs.declared.state.State.{State}
 use Rattle.std.specs.Prelude.{OnOk, OnErr, IfErr}
 use Rattle.hs_plain.specs.declared.resolve.AskFault.{AskFault}
@@ -11,8 +11,10 @@ use Rattle.hs_plain.specs.declared.resolve.AskFault.TheVariants as faults
 use Rattle.hs_plain.specs.Asked.{Asked}
 use Rattle.hs_plain.specs.Faults.{IsFaultOf, is_answered}
 use Rattle.hs_plain.specs.Files.{Files}
-use Rattle.hs_plain.specs.Answer.{asked, replied, mkdir_at, create_at, delete_at, rename_at, set_mode_at, append_at}
-use Rattle.hs_plain.specs.Change.{change, if_asked, made_dir, made_file, removed, renamed, with_mode, appended}
+use Rattle.hs_plain.specs.Answer.{asked, replied}
+use Rattle.hs_plain.specs.Modifying.{mkdir_at, create_at, delete_at, rename_at, set_mode_at, append_at}
+use Rattle.hs_plain.specs.Snapshotting.{allow_at, disallow_at, snap_at, snap_del_at, snap_ren_at}
+use Rattle.hs_plain.specs.Change.{change, if_asked, made_dir, made_file, removed, renamed, with_mode, appended, allowed, disallowed, snapped, unsnapped, resnapped}
 
 module _ {X : Type 0} {B : Type 0} (make : X → State B) (state : State B) (reply : Reply) (why : Refusal) where
   unchanged : (told : Asked X) → replied reply told ≡ Err why → if_asked make state told ≡ state
@@ -30,6 +32,16 @@ refused_same files state (calls.Read path offset len) why refused = refl
 refused_same files state (calls.ReadNext cursor len) why refused = refl
 refused_same files state (calls.Stat path) why refused = refl
 refused_same files state (calls.List path size) why refused = refl
+refused_same files state (calls.Allow path) why refused = unchanged (allowed state) state _ why (allow_at state path) refused
+refused_same files state (calls.Disallow path) why refused = unchanged (disallowed state) state _ why (disallow_at state path) refused
+refused_same files state (calls.Snap path name) why refused = unchanged (snapped state name) state _ why (snap_at state path name) refused
+refused_same files state (calls.SnapDel path name) why refused = unchanged (unsnapped state) state _ why (snap_del_at state path name) refused
+refused_same files state (calls.SnapRen path old new) why refused = unchanged (resnapped state new) state _ why (snap_ren_at state path old new) refused
+refused_same files state (calls.ListNext cursor size) why refused = refl
+refused_same files state (calls.Snaps path) why refused = refl
+refused_same files state calls.Dirs why refused = refl
+refused_same files state (calls.Report path from to size) why refused = refl
+refused_same files state (calls.ReportNext cursor size) why refused = refl
 
 -- what was answered, with whatever reply, made the call's change
 pub answered_change : {B : Type 0} (files : Files B) (state new : State B) (call : Call) (made : Result Reply AskFault) → is_answered made ≡ true →

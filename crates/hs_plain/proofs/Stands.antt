@@ -11,17 +11,21 @@ use Rattle.hs_types.specs.declared.call.Call.{Call}
 use Rattle.hs_types.specs.declared.call.Call.TheVariants as calls
 use Rattle.hs_types.specs.declared.call.Place.{Place}
 use Rattle.hs_types.specs.declared.call.Place.TheVariants as places
-use Rattle.hs_types.specs.declared.call.Reply.{Reply}
-use Rattle.hs_types.specs.declared.call.Reply.TheVariants as replies
+use Rattle.hs_types.specs.declared.reply.Reply.{Reply}
+use Rattle.hs_types.specs.declared.reply.Reply.TheVariants as replies
 use Rattle.hs_plain.specs.declared.state.Node.{Node}
 use Rattle.hs_plain.specs.declared.state.State.{State}
 use Rattle.hs_plain.specs.declared.state.FileBlocks.{FileBlocks}
 use Rattle.hs_plain.specs.Asked.{Asked, ◌>>=◌}
 use Rattle.hs_plain.specs.Files.{Files, plain_files, sized_files, block_files}
-use Rattle.hs_plain.specs.Tree.{Tree}
-use Rattle.hs_plain.specs.State.{resolve, member_with, place_of, snapshots_of, items_at}
-use Rattle.hs_plain.specs.Answer.{page_of, mkdir_at, create_at, delete_at, rename_at, set_mode_at, append_at, node_stat, list_stat, stat_at, next_read, bytes_page, page_at, made_reply, replied, asked, told as told_of, answer_by, answer, is_modifying, uses_store, is_ok_reply, blank, blanked}
+use Rattle.hs_plain.specs.Tree.{Tree, place_of}
+use Rattle.hs_plain.specs.State.{resolve, member_with, snapshots_of, items_at}
+use Rattle.hs_plain.specs.Pages.{page_of, next_read, bytes_page}
+use Rattle.hs_plain.specs.Modifying.{mkdir_at, create_at, delete_at, rename_at, set_mode_at, append_at}
+use Rattle.hs_plain.specs.Reading.{node_stat, list_stat, stat_at, page_at}
+use Rattle.hs_plain.specs.Answer.{made_reply, replied, asked, reply_to, answer_by, answer, is_modifying, uses_store, is_ok_reply, blank, blanked}
 use Rattle.hs_plain.specs.Change.{with_file, change}
+use Rattle.hs_plain.specs.Served.{is_served}
 use Rattle.hs_plain.specs.Viewed.{viewed, StandsFor, bytes_in, HasBytes}
 use Rattle.hs_plain.proofs.Viewed.{mapped, asked-viewed, read-viewed}
 use Rattle.hs_plain.proofs.ViewedChange.{appended-viewed, change-viewed, every_change-viewed}
@@ -32,7 +36,7 @@ then-blanked : {X : Type 0} (tests : Asked X) (f : X → Asked Reply) → ((x : 
 then-blanked (Ok x) f same = same x
 then-blanked (Err why) f same = refl
 
-told-blanked : (reply : Asked Reply) → told_of (mapped blanked reply) ≡ blanked (told_of reply)
+told-blanked : (reply : Asked Reply) → reply_to (mapped blanked reply) ≡ blanked (reply_to reply)
 told-blanked (Ok reply) = refl
 told-blanked (Err why) = refl
 
@@ -42,6 +46,10 @@ ok-blanked replies.Done = refl
 ok-blanked (replies.Bytes bytes next) = refl
 ok-blanked (replies.Stat id is_dir mode stamp size) = refl
 ok-blanked (replies.Page items next) = refl
+ok-blanked (replies.SnapMade id) = refl
+ok-blanked (replies.Snaps dir list) = refl
+ok-blanked (replies.Dirs list) = refl
+ok-blanked (replies.Report lines next) = refl
 ok-blanked (replies.Refused why) = refl
 ok-blanked replies.NoMemory = refl
 
@@ -67,18 +75,28 @@ module _ {B : Type 0} (files : Files B) (state : State B) where
   at_place-blanked text f same = then-blanked (path_of text) (λ path. resolve state path >>= f) (λ path. then-blanked (resolve state path) f same)
 
   -- a call that reads no file is answered without bytes
-  asked-blanked : (call : Call) → (uses_store call && not (is_modifying call)) ≡ false → mapped blanked (asked files state call) ≡ asked files state call
-  asked-blanked (calls.Mkdir path) no_read = replied-blanked (made_reply state) refl (mkdir_at state path)
-  asked-blanked (calls.Create path over) no_read = replied-blanked (made_reply state) refl (create_at state path over)
-  asked-blanked (calls.Append path bytes) no_read = replied-blanked replies.Done refl (append_at state path)
-  asked-blanked (calls.Delete path recursive) no_read = replied-blanked replies.Done refl (delete_at state path recursive)
-  asked-blanked (calls.Rename old new) no_read = replied-blanked replies.Done refl (rename_at state old new)
-  asked-blanked (calls.SetMode path mode) no_read = replied-blanked replies.Done refl (set_mode_at state path)
-  asked-blanked (calls.Read path offset len) no_read = absurd (cc)
-  asked-blanked (calls.ReadNext cursor len) no_read = absurd (cc)
-  asked-blanked (calls.Stat path) no_read = at_place-blanked path (stat_at files state) stat_at-blanked
-  asked-blanked (calls.List path size) no_read =
+  asked-blanked : (call : Call) → is_served call ≡ true → (uses_store call && not (is_modifying call)) ≡ false → mapped blanked (asked files state call) ≡ asked files state call
+  asked-blanked (calls.Mkdir path) served no_read = replied-blanked (made_reply state) refl (mkdir_at state path)
+  asked-blanked (calls.Create path over) served no_read = replied-blanked (made_reply state) refl (create_at state path over)
+  asked-blanked (calls.Append path bytes) served no_read = replied-blanked replies.Done refl (append_at state path)
+  asked-blanked (calls.Delete path recursive) served no_read = replied-blanked replies.Done refl (delete_at state path recursive)
+  asked-blanked (calls.Rename old new) served no_read = replied-blanked replies.Done refl (rename_at state old new)
+  asked-blanked (calls.SetMode path mode) served no_read = replied-blanked replies.Done refl (set_mode_at state path)
+  asked-blanked (calls.Read path offset len) served no_read = absurd (cc)
+  asked-blanked (calls.ReadNext cursor len) served no_read = absurd (cc)
+  asked-blanked (calls.Stat path) served no_read = at_place-blanked path (stat_at files state) stat_at-blanked
+  asked-blanked (calls.List path size) served no_read =
       at_place-blanked path (λ place. items_at state place >>= λ items. Ok (page_of place items None size)) (λ place. then-blanked (items_at state place) (λ items. Ok (page_of place items None size)) (λ items. refl))
+  asked-blanked (calls.Allow path) served no_read = absurd (cc)
+  asked-blanked (calls.Disallow path) served no_read = absurd (cc)
+  asked-blanked (calls.Snap path name) served no_read = absurd (cc)
+  asked-blanked (calls.SnapDel path name) served no_read = absurd (cc)
+  asked-blanked (calls.SnapRen path old new) served no_read = absurd (cc)
+  asked-blanked (calls.ListNext cursor size) served no_read = absurd (cc)
+  asked-blanked (calls.Snaps path) served no_read = absurd (cc)
+  asked-blanked calls.Dirs served no_read = absurd (cc)
+  asked-blanked (calls.Report path from to size) served no_read = absurd (cc)
+  asked-blanked (calls.ReportNext cursor size) served no_read = absurd (cc)
 
 -- ---- files as their sizes
 
@@ -110,53 +128,63 @@ is_read (calls.Read path offset len) so = (refl, refl)
 is_read (calls.ReadNext cursor len) so = (refl, refl)
 is_read (calls.Stat path) so = absurd (cc)
 is_read (calls.List path size) so = absurd (cc)
+is_read (calls.Allow path) so = absurd (cc)
+is_read (calls.Disallow path) so = absurd (cc)
+is_read (calls.Snap path name) so = absurd (cc)
+is_read (calls.SnapDel path name) so = absurd (cc)
+is_read (calls.SnapRen path old new) so = absurd (cc)
+is_read (calls.ListNext cursor size) so = absurd (cc)
+is_read (calls.Snaps path) so = absurd (cc)
+is_read calls.Dirs so = absurd (cc)
+is_read (calls.Report path from to size) so = absurd (cc)
+is_read (calls.ReportNext cursor size) so = absurd (cc)
 
-sized_plain : (plain : State (List ℕ)) (call : Call) → asked sized_files (viewed length plain) call ≡ mapped blanked (asked plain_files plain call)
-sized_plain plain call = by_test (uses_store call && not (is_modifying call))
+sized_plain : (plain : State (List ℕ)) (call : Call) → is_served call ≡ true → asked sized_files (viewed length plain) call ≡ mapped blanked (asked plain_files plain call)
+sized_plain plain call served = by_test (uses_store call && not (is_modifying call))
     (λ so. read-viewed length plain_files sized_files blanked sized-page plain call (is_read call so).0 (is_read call so).1)
-    (λ no. asked-viewed length plain_files sized_files (λ file. refl) plain call no ∙ sym (asked-blanked plain_files plain call no))
+    (λ no. asked-viewed length plain_files sized_files (λ file. refl) plain call served no ∙ sym (asked-blanked plain_files plain call served no))
 
-sized_whole : (whole : State FileBlocks) (call : Call) → asked sized_files (viewed (λ file. file.size) whole) call ≡ asked block_files whole call
-sized_whole whole call = by_test (uses_store call && not (is_modifying call))
+sized_whole : (whole : State FileBlocks) (call : Call) → is_served call ≡ true → asked sized_files (viewed (λ file. file.size) whole) call ≡ asked block_files whole call
+sized_whole whole call served = by_test (uses_store call && not (is_modifying call))
     (λ so. read-viewed (λ file. file.size) block_files sized_files (λ r. r) (λ offset len place file. refl) whole call (is_read call so).0 (is_read call so).1 ∙ same-reply (asked block_files whole call))
-    (λ no. asked-viewed (λ file. file.size) block_files sized_files (λ file. refl) whole call no)
+    (λ no. asked-viewed (λ file. file.size) block_files sized_files (λ file. refl) whole call served no)
 
 -- ---- answers
 
 -- the same answer, but for the bytes of a file
-pub answer_sized : (whole : State FileBlocks) (plain : State (List ℕ)) → StandsFor whole plain → (call : Call) → blanked (answer plain call) ≡ answer_by block_files whole call
-answer_sized whole plain stands call =
+pub answer_sized : (whole : State FileBlocks) (plain : State (List ℕ)) → StandsFor whole plain → (call : Call) → is_served call ≡ true → blanked (answer plain call) ≡ answer_by block_files whole call
+answer_sized whole plain stands call served =
     sym (told-blanked (asked plain_files plain call))
-    ∙ ap told_of (sym (sized_plain plain call) ∙ ap (λ (state : State ℕ). asked sized_files state call) (sym stands) ∙ sized_whole whole call)
+    ∙ ap reply_to (sym (sized_plain plain call served) ∙ ap (λ (state : State ℕ). asked sized_files state call) (sym stands) ∙ sized_whole whole call served)
 
 -- where no file is read, the same answer
-pub answer_stands : (whole : State FileBlocks) (plain : State (List ℕ)) → StandsFor whole plain → (call : Call) → (uses_store call && not (is_modifying call)) ≡ false → answer plain call ≡ answer_by block_files whole call
-answer_stands whole plain stands call no_read =
-    ap told_of (sym (asked-viewed length plain_files sized_files (λ file. refl) plain call no_read) ∙ ap (λ (state : State ℕ). asked sized_files state call) (sym stands) ∙ sized_whole whole call)
+pub answer_stands : (whole : State FileBlocks) (plain : State (List ℕ)) → StandsFor whole plain → (call : Call) → is_served call ≡ true → (uses_store call && not (is_modifying call)) ≡ false → answer plain call ≡ answer_by block_files whole call
+answer_stands whole plain stands call served no_read =
+    ap reply_to (sym (asked-viewed length plain_files sized_files (λ file. refl) plain call served no_read) ∙ ap (λ (state : State ℕ). asked sized_files state call) (sym stands) ∙ sized_whole whole call served)
 
 -- both refuse, or none
-pub ok_stands : (whole : State FileBlocks) (plain : State (List ℕ)) → StandsFor whole plain → (call : Call) → is_ok_reply (answer plain call) ≡ is_ok_reply (answer_by block_files whole call)
-ok_stands whole plain stands call = sym (ok-blanked (answer plain call)) ∙ ap is_ok_reply (answer_sized whole plain stands call)
+pub ok_stands : (whole : State FileBlocks) (plain : State (List ℕ)) → StandsFor whole plain → (call : Call) → is_served call ≡ true → is_ok_reply (answer plain call) ≡ is_ok_reply (answer_by block_files whole call)
+ok_stands whole plain stands call served = sym (ok-blanked (answer plain call)) ∙ ap is_ok_reply (answer_sized whole plain stands call served)
 
 -- a read of a store that tells its blocks
 pub read_told : (map : BlockMap) (whole : State FileBlocks) (plain : State (List ℕ)) → HasBytes (Some map) whole plain → (call : Call) → is_modifying call ≡ false → uses_store call ≡ true →
     answer plain call ≡ answer_by (record block_files { bytes = bytes_in map }) whole call
 read_told map whole plain has call reads uses =
     let telling : Files FileBlocks = record block_files { bytes = bytes_in map } in
-    ap told_of (ap (λ (state : State (List ℕ)). asked plain_files state call) (sym has) ∙ read-viewed (bytes_in map) telling plain_files (λ r. r) (λ offset len place file. refl) whole call reads uses ∙ same-reply (asked telling whole call))
+    ap reply_to (ap (λ (state : State (List ℕ)). asked plain_files state call) (sym has) ∙ read-viewed (bytes_in map) telling plain_files (λ r. r) (λ offset len place file. refl) whole call reads uses ∙ same-reply (asked telling whole call))
 
 -- ---- changes
 
-pub change_stands : (whole : State FileBlocks) (plain : State (List ℕ)) → StandsFor whole plain → (call : Call) → StandsFor (change block_files whole call) (change plain_files plain call)
-change_stands whole plain stands call =
-    sym (every_change-viewed (λ file. file.size) block_files sized_files refl (λ file bytes. refl) whole call)
+pub change_stands : (whole : State FileBlocks) (plain : State (List ℕ)) → StandsFor whole plain → (call : Call) → is_served call ≡ true → StandsFor (change block_files whole call) (change plain_files plain call)
+change_stands whole plain stands call served =
+    sym (every_change-viewed (λ file. file.size) block_files sized_files refl (λ file bytes. refl) whole call served)
     ∙ ap (λ (state : State ℕ). change sized_files state call) stands
-    ∙ every_change-viewed length plain_files sized_files refl length-append plain call
+    ∙ every_change-viewed length plain_files sized_files refl length-append plain call served
 
 -- what asks for no store leaves its bytes as they are
-pub change_told : (told : Option BlockMap) (whole : State FileBlocks) (plain : State (List ℕ)) → HasBytes told whole plain → (call : Call) → uses_store call ≡ false → HasBytes told (change block_files whole call) (change plain_files plain call)
-change_told None whole plain has call no_store = tt
-change_told (Some map) whole plain has call no_store = sym (change-viewed (bytes_in map) block_files plain_files (take-nil 0) whole call no_store) ∙ ap (λ (state : State (List ℕ)). change plain_files state call) has
+pub change_told : (told : Option BlockMap) (whole : State FileBlocks) (plain : State (List ℕ)) → HasBytes told whole plain → (call : Call) → is_served call ≡ true → uses_store call ≡ false → HasBytes told (change block_files whole call) (change plain_files plain call)
+change_told None whole plain has call served no_store = tt
+change_told (Some map) whole plain has call served no_store = sym (change-viewed (bytes_in map) block_files plain_files (take-nil 0) whole call served no_store) ∙ ap (λ (state : State (List ℕ)). change plain_files state call) has
 
 -- a file with blocks in the place of another, as many bytes longer as an append says
 pub appended_stands : (whole : State FileBlocks) (plain : State (List ℕ)) → StandsFor whole plain → (text bytes : List ℕ) (path : Names) (node : Node FileBlocks) (file new : FileBlocks) →
@@ -164,7 +192,7 @@ pub appended_stands : (whole : State FileBlocks) (plain : State (List ℕ)) → 
 appended_stands whole plain stands text bytes path node file new asked longer =
     sym (appended-viewed (λ file. file.size) sized_files whole text bytes path node file new asked longer)
     ∙ ap (λ (state : State ℕ). change sized_files state (calls.Append text bytes)) stands
-    ∙ every_change-viewed length plain_files sized_files refl length-append plain (calls.Append text bytes)
+    ∙ every_change-viewed length plain_files sized_files refl length-append plain (calls.Append text bytes) refl
 
 -- and with these bytes behind the ones that it had
 pub appended_told : (map : BlockMap) (whole : State FileBlocks) (plain : State (List ℕ)) → HasBytes (Some map) whole plain → (text bytes : List ℕ) (path : Names) (node : Node FileBlocks) (file new : FileBlocks) →

@@ -1,19 +1,28 @@
 -- What holds of the paths of a modifying call that isn't refused.
-use Rattle.std.proofs.Common.{◌≡◌, ℕ, ◌+◌, ◌≤◌, Bool, true, false, cond, List, [], ◌∷◌, ◌++◌, length, Option, Some, None, Ok, Err, refl, sym, ap, ◌∙◌, append_assoc, append-nil, length-append, arith}
-use Rattle.std.specs.Prelude.{◌≢◌, ◌&&◌, nat_lt, is_some}
+use Rattle.std.proofs.Common.{◌≡◌, inl, inr, ℕ, ◌+◌, ◌≤◌, Bool, true, false, cond, List, [], ◌∷◌, ◌++◌, length, Option, Some, None, Ok, Err, refl, sym, ap, subst, ◌∙◌, append_assoc, append-nil, length-append, arith}
+use Rattle.std.specs.Prelude.{◌≢◌, not, ◌&&◌, nat_lt, nat_le, is_some}
 use Rattle.std.proofs.lemmas.Bool.{ltb-false}
-use Rattle.hs_types.specs.Names.{Names}
-use Rattle.hs_types.specs.declared.call.Refusal.{Refusal}
-use Rattle.hs_types.specs.declared.call.Refusal.TheVariants.{NotDir, NotEmpty}
+use Rattle.hs_types.specs.declared.refusal.Refusal.{Refusal}
+use Rattle.hs_types.specs.Limits.{snapshot_limit}
+use Rattle.hs_types.specs.Names.{Names, is_name}
+use Rattle.hs_types.specs.declared.ids.InodeId.{InodeId}
+use Rattle.hs_types.specs.declared.ids.SnapId.{SnapId}
+use Rattle.hs_types.specs.declared.refusal.Refusal.TheVariants.{NotDir, NotEmpty, HasSnapshots, IntoItself}
 use Rattle.hs_plain.specs.declared.state.Node.{Node}
 use Rattle.hs_plain.specs.declared.state.Body.{Body}
 use Rattle.hs_plain.specs.declared.state.Body.TheVariants.{File, Dir}
+use Rattle.hs_plain.specs.declared.state.Member.{Member}
 use Rattle.hs_plain.specs.declared.state.State.{State}
 use Rattle.hs_plain.specs.Asked.{Asked, ◌>>=◌, refuse_if, both}
-use Rattle.hs_plain.specs.Tree.{Tree, node_at, passes, walks_from, walks_above, walk, found, is_dir, is_root_path, is_above}
-use Rattle.hs_plain.specs.Answer.{live_path, mkdir_at, create_at, delete_at, rename_at, may_move, takes_place_of, spares_children, file_in, append_at}
+use Rattle.hs_plain.specs.Tree.{Tree, node_at, passes, walks_from, walks_above, walk, found, is_dir, is_root_path, is_above, same_inode}
+use Rattle.hs_plain.specs.State.{is_snapshottable, snapshots_of, has_snapshots, has_snapshot_named, snapshot_named, is_named, holds_snapshots, meets_snapshottable}
+use Rattle.hs_plain.specs.Modifying.{live_path, mkdir_at, create_at, delete_at, rename_at, may_move, would_nest, takes_place_of, spares_children, file_in, append_at}
+use Rattle.hs_plain.specs.Snapshotting.{directory_at, allow_at, disallow_at, snap_at, snap_ren_at}
 use Rattle.hs_plain.specs.Valid.{is_dir_node}
+use Rattle.hs_plain.proofs.ValidTrees.{first}
 use Rattle.hs_plain.proofs.ValidShapes.{under_test}
+use Rattle.hs_plain.proofs.ValidLists.{In}
+use Rattle.hs_plain.proofs.ValidMembers.{inode_so}
 
 err_ok : {X : Type 0} {why : Refusal} {x : X} → Err why ≡ Ok x → ⊥
 err_ok h = cc
@@ -42,6 +51,10 @@ both_ok (Err a) (Err b) z h = absurd (err_ok h)
 not_root : (path : Names) → is_root_path path ≡ false → path ≢ []
 not_root [] h e = cc
 not_root (name ∷ path) h e = cc
+
+not_not : (b : Bool) → not b ≡ false → b ≡ true
+not_not true h = refl
+not_not false h = sym h
 
 module _ {B : Type 0} where
   passed : (o : Option (Node B)) (u : Unit {0}) → passes o ≡ Ok u → is_dir_node o ≡ true
@@ -95,14 +108,23 @@ module _ {B : Type 0} where
         free = ap (λ (p : Names). is_dir_node (node_at state.tree p)) (sym same) ∙ free_place over _ c.0 c.1;
       }
 
-  pub delete_below : (state : State B) (text : List ℕ) (recursive : Bool) (path : Names) → delete_at state text recursive ≡ Ok path → path ≢ []
-  delete_below state text recursive path h =
+  -- a node that may go: it isn't the root, and no directory that goes has snapshots
+  pub record MayGo (state : State B) (path : Names) : Type 0 where
+    pub below_root : path ≢ []
+    pub free : holds_snapshots state path ≡ false
+
+  pub delete_allowed : (state : State B) (text : List ℕ) (recursive : Bool) (path : Names) → delete_at state text recursive ≡ Ok path → MayGo state path
+  delete_allowed state text recursive path h =
       let a = ok_then (live_path text) _ path h in
       let b = ok_then (walk state.tree a.0) _ path a.2 in
       let c = ok_then (refuse_if (is_root_path a.0) _) _ path b.2 in
-      let d = ok_then (refuse_if (spares_children state.tree a.0 recursive) NotEmpty) (λ _. okay a.0) path c.2 in
-      let same : a.0 ≡ path = same_ok d.2 in
-      λ e. not_root a.0 (not_refused _ _ c.0 c.1) (same ∙ e)
+      let d = ok_then (refuse_if (spares_children state.tree a.0 recursive) NotEmpty) _ path c.2 in
+      let f = ok_then (refuse_if (holds_snapshots state a.0) HasSnapshots) (λ _. okay a.0) path d.2 in
+      let same : a.0 ≡ path = same_ok f.2 in
+      record {
+        below_root = λ e. not_root a.0 (not_refused _ _ c.0 c.1) (same ∙ e);
+        free = ap (holds_snapshots state) (sym same) ∙ not_refused _ _ f.0 f.1;
+      }
 
   is_file : (body : Body B) (file : B) → file_in body ≡ Ok file → body ≡ File file
   is_file (File other) file h = ap (λ f. File f) (same_ok h)
@@ -133,27 +155,37 @@ module _ {B : Type 0} where
     pub below_root : old ≢ []
     pub outside : is_above old new ≡ false
 
-  pub move_allowed : (tree : Tree B) (old new : Names) (u : Unit {0}) → may_move tree old new ≡ Ok u → MayMove tree old new
-  move_allowed tree old new u h =
-      let a = ok_then (both (walk tree old) (walks_above tree new)) _ u h in
-      let ends = both_ok (walk tree old) (walks_above tree new) a.0 a.1 in
-      let b = ok_then (refuse_if (is_some (node_at tree new)) _) _ u a.2 in
+  -- and, with a snapshottable directory, not below another one
+  pub record MayMoveIn (state : State B) (old new : Names) : Type 0 where
+    pub moves : MayMove state.tree old new
+    pub unnested : would_nest state old new ≡ false
+
+  move_allowed : (state : State B) (old new : Names) (u : Unit {0}) → may_move state old new ≡ Ok u → MayMoveIn state old new
+  move_allowed state old new u h =
+      let a = ok_then (both (walk state.tree old) (walks_above state.tree new)) _ u h in
+      let ends = both_ok (walk state.tree old) (walks_above state.tree new) a.0 a.1 in
+      let b = ok_then (refuse_if (is_some (node_at state.tree new)) _) _ u a.2 in
       let c = ok_then (refuse_if (is_root_path old) _) _ u b.2 in
-      let node = ok_then (walks_above tree old) _ a.0.0 ends.0 in
+      let d = ok_then (refuse_if (holds_snapshots state old) HasSnapshots) _ u c.2 in
+      let f = ok_then (refuse_if (is_above old new) IntoItself) _ u d.2 in
+      let node = ok_then (walks_above state.tree old) _ a.0.0 ends.0 in
       record {
-        reached = (a.0.1, ends.1);
-        there = (a.0.0, found_some _ a.0.0 node.2);
-        free = is_none _ (not_refused _ _ b.0 b.1);
-        below_root = not_root old (not_refused _ _ c.0 c.1);
-        outside = not_refused _ _ u c.2;
+        moves = record {
+          reached = (a.0.1, ends.1);
+          there = (a.0.0, found_some _ a.0.0 node.2);
+          free = is_none _ (not_refused _ _ b.0 b.1);
+          below_root = not_root old (not_refused _ _ c.0 c.1);
+          outside = not_refused _ _ f.0 f.1;
+        };
+        unnested = not_refused _ _ u f.2;
       }
 
-  pub rename_allowed : (state : State B) (old new : List ℕ) (paths : Names × Names) → rename_at state old new ≡ Ok paths → MayMove state.tree paths.0 paths.1
+  pub rename_allowed : (state : State B) (old new : List ℕ) (paths : Names × Names) → rename_at state old new ≡ Ok paths → MayMoveIn state paths.0 paths.1
   rename_allowed state old new paths h =
       let a = ok_then (both (live_path old) (live_path new)) _ paths h in
-      let b = ok_then (may_move state.tree a.0.0 a.0.1) _ paths a.2 in
+      let b = ok_then (may_move state a.0.0 a.0.1) _ paths a.2 in
       let same : a.0 ≡ paths = same_ok b.2 in
-      move_allowed state.tree paths.0 paths.1 b.0 (ap (λ (p : Names × Names). may_move state.tree p.0 p.1) (sym same) ∙ b.1)
+      move_allowed state paths.0 paths.1 b.0 (ap (λ (p : Names × Names). may_move state p.0 p.1) (sym same) ∙ b.1)
 
   -- the new place of a move is neither the old one nor below it
   pub lands_outside : (tree : Tree B) (old new : Names) → MayMove tree old new → (rest : Names) → new ≢ old ++ rest
@@ -166,3 +198,95 @@ module _ {B : Type 0} where
       let le : length new ≤ length old = ltb-false (length old) (length new) longer in
       let len : length new ≡ length old + length (name ∷ rest) = ap length e ∙ length-append old (name ∷ rest) in
       absurd (omega arith)
+
+  -- ---- calls on snapshots
+
+  -- a directory that such a call names
+  pub record IsDirAt (tree : Tree B) (path : Names) (node : Node B) : Type 0 where
+    pub there : node_at tree path ≡ Some node
+    pub dir : is_dir node ≡ true
+
+  pub dir_there : (state : State B) (text : List ℕ) (at : Names × Node B) → directory_at state text ≡ Ok at → IsDirAt state.tree at.0 at.1
+  dir_there state text at h =
+      let a = ok_then (live_path text) _ at h in
+      let b = ok_then (walk state.tree a.0) _ at a.2 in
+      let c = ok_then (refuse_if (not (is_dir b.0)) NotDir) _ at b.2 in
+      let node = ok_then (walks_above state.tree a.0) _ b.0 b.1 in
+      let same : (a.0, b.0) ≡ at = same_ok c.2 in
+      record {
+        there = ap (λ (x : Names × Node B). node_at state.tree x.0) (sym same) ∙ found_some _ b.0 node.2 ∙ ap (λ (x : Names × Node B). Some x.1) same;
+        dir = ap (λ (x : Names × Node B). is_dir x.1) (sym same) ∙ not_not _ (not_refused _ _ c.0 c.1);
+      }
+
+  -- a directory that may become snapshottable
+  pub record MayAllow (state : State B) (id : InodeId) : Type 0 where
+    pub path : Names
+    pub node : Node B
+    pub is_there : IsDirAt state.tree path node
+    pub same : node.id ≡ id
+    pub unnested : meets_snapshottable state path ≡ false
+
+  pub allow_allowed : (state : State B) (text : List ℕ) (id : InodeId) → allow_at state text ≡ Ok id → MayAllow state id
+  allow_allowed state text id h =
+      let a = ok_then (directory_at state text) _ id h in
+      let b = ok_then (refuse_if (meets_snapshottable state a.0.0) _) _ id a.2 in
+      record { path = a.0.0; node = a.0.1; is_there = dir_there state text a.0 a.1; same = same_ok b.2; unnested = not_refused _ _ b.0 b.1 }
+
+  pub disallow_allowed : (state : State B) (text : List ℕ) (id : InodeId) → disallow_at state text ≡ Ok id → has_snapshots state id ≡ false
+  disallow_allowed state text id h =
+      let a = ok_then (directory_at state text) _ id h in
+      let b = ok_then (refuse_if (has_snapshots state a.0.1.id) _) _ id a.2 in
+      let c = ok_then (refuse_if (not (is_snapshottable state a.0.1.id)) _) _ id b.2 in
+      let same : a.0.1.id ≡ id = same_ok c.2 in
+      ap (has_snapshots state) (sym same) ∙ not_refused _ _ b.0 b.1
+
+  -- a directory of which a snapshot may be made
+  pub record MaySnap (state : State B) (name : List ℕ) (path : Names) (node : Node B) : Type 0 where
+    pub is_there : IsDirAt state.tree path node
+    pub allowed : is_snapshottable state node.id ≡ true
+    pub free : has_snapshot_named state node.id name ≡ false
+    pub room : nat_le snapshot_limit (snapshots_of state.members node.id) ≡ false
+
+  pub snap_allowed : (state : State B) (text name : List ℕ) (at : Names × Node B) → snap_at state text name ≡ Ok at → MaySnap state name at.0 at.1
+  snap_allowed state text name at h =
+      let a = ok_then (directory_at state text) _ at h in
+      let b = ok_then (refuse_if (not (is_name name)) _) _ at a.2 in
+      let c = ok_then (refuse_if (not (is_snapshottable state a.0.1.id)) _) _ at b.2 in
+      let d = ok_then (refuse_if (has_snapshot_named state a.0.1.id name) _) _ at c.2 in
+      let f = ok_then (refuse_if (nat_le snapshot_limit (snapshots_of state.members a.0.1.id)) _) _ at d.2 in
+      let same : a.0 ≡ at = same_ok f.2 in
+      subst (λ (x : Names × Node B). MaySnap state name x.0 x.1) same (record {
+        is_there = dir_there state text a.0 a.1;
+        allowed = not_not _ (not_refused _ _ c.0 c.1);
+        free = not_refused _ _ d.0 d.1;
+        room = not_refused _ _ f.0 f.1;
+      })
+
+  named_so : (dir : InodeId) (name : List ℕ) (member : Member B) → is_named dir name member ≡ true → member.directory ≡ dir
+  named_so dir name member h = inode_so member.directory dir (first (same_inode member.directory dir) _ h)
+
+  -- a snapshot that may get another name: it is a directory's that has none of this name
+  pub record MayRename (state : State B) (name : List ℕ) (id : SnapId) : Type 0 where
+    pub member : Member B
+    pub is_there : In state.members member
+    pub same : member.snapshot ≡ id
+    pub free : has_snapshot_named state member.directory name ≡ false
+
+  found_named : (ms : List (Member B)) (dir : InodeId) (name : List ℕ) (id : SnapId) → snapshot_named ms dir name ≡ Ok id → (m : Member B) × (In ms m) × (m.directory ≡ dir) × (m.snapshot ≡ id)
+  found_named [] dir name id h = absurd (err_ok h)
+  found_named (m ∷ ms) dir name id h = by_head (found_named ms dir name id) h
+    where
+      by_head : (snapshot_named ms dir name ≡ Ok id → (x : Member B) × (In ms x) × (x.directory ≡ dir) × (x.snapshot ≡ id)) → snapshot_named (m ∷ ms) dir name ≡ Ok id → (x : Member B) × (In (m ∷ ms) x) × (x.directory ≡ dir) × (x.snapshot ≡ id)
+      by_head rest = (elim (is_named dir name m) as (λ b. is_named dir name m ≡ b → cond {A = Asked SnapId} b (Ok m.snapshot) (snapshot_named ms dir name) ≡ Ok id → (x : Member B) × (In (m ∷ ms) x) × (x.directory ≡ dir) × (x.snapshot ≡ id)) [
+        | true ↦ λ t h. (m, inl refl, named_so dir name m t, same_ok h)
+        | false ↦ λ f h. let w = rest h in (w.0, inr w.1, w.2, w.3)
+      ]) refl
+
+  pub snap_ren_allowed : (state : State B) (text old new : List ℕ) (id : SnapId) → snap_ren_at state text old new ≡ Ok id → MayRename state new id
+  snap_ren_allowed state text old new id h =
+      let a = ok_then (directory_at state text) _ id h in
+      let b = ok_then (refuse_if (not (is_name new)) _) _ id a.2 in
+      let c = ok_then (refuse_if (not (is_snapshottable state a.0.1.id)) _) _ id b.2 in
+      let d = ok_then (refuse_if (has_snapshot_named state a.0.1.id new) _) _ id c.2 in
+      let w = found_named state.members a.0.1.id old id d.2 in
+      record { member = w.0; is_there = w.1; same = w.3; free = ap (λ dir. has_snapshot_named state dir new) w.2 ∙ not_refused _ _ d.0 d.1 }

@@ -10,6 +10,7 @@ use Rattle.hs_types.specs.Names.{Names}
 use Rattle.hs_plain.specs.declared.state.Node.{Node}
 use Rattle.hs_plain.specs.Tree.{Tree, path_cmp, node_at, same_path}
 use Rattle.hs_plain.specs.Change.{restamp, stamped, remode, moded, without, repath, at_new}
+use Rattle.hs_plain.specs.Places.{IsOutside}
 use Rattle.hs_plain.proofs.ValidTrees.{paths_total, paths_exact, restamp-kept, remode-kept}
 use Rattle.hs_plain.proofs.ValidShapes.{same_so, same-itself, other-test, under_test, under_so}
 use Rattle.hs_plain.proofs.ValidNodes.{shape, shapes}
@@ -69,14 +70,20 @@ module _ {B : Type 0} where
 
   -- ---- a subtree taken out
 
-  node_at-without : (tree : Tree B) (path q : Names) → node_at (without tree path) q ≡ cond (not (starts_with bytes_eq q path)) (node_at tree q) None
+  pub node_at-without : (tree : Tree B) (path q : Names) → node_at (without tree path) q ≡ cond (not (starts_with bytes_eq q path)) (node_at tree q) None
   node_at-without tree path q = find-where_key path_cmp (λ other. not (starts_with bytes_eq other path)) q (λ other tie. ap (λ (x : Names). not (starts_with bytes_eq x path)) (sym (paths_exact q other tie))) tree
 
-  pub without_gone : (tree : Tree B) (path rest : Names) → shapes (without tree path) (path ++ rest) ≡ None
-  without_gone tree path rest = ap (option_map shape) (node_at-without tree path (path ++ rest) ∙ ap (λ b. cond (not b) (node_at tree (path ++ rest)) None) (under_test (path ++ rest) path rest refl))
+  pub without-below : (tree : Tree B) (path rest : Names) → node_at (without tree path) (path ++ rest) ≡ None
+  without-below tree path rest = node_at-without tree path (path ++ rest) ∙ ap (λ b. cond (not b) (node_at tree (path ++ rest)) None) (under_test (path ++ rest) path rest refl)
 
-  pub without_there : (tree : Tree B) (path q : Names) → ((rest : Names) → q ≢ path ++ rest) → shapes (without tree path) q ≡ shapes tree q
-  without_there tree path q apart = ap (option_map shape) (node_at-without tree path q ∙ ap (λ b. cond (not b) (node_at tree q) None) (apart_test q path apart))
+  pub without-elsewhere : (tree : Tree B) (path other : Names) → IsOutside path other → node_at (without tree path) other ≡ node_at tree other
+  without-elsewhere tree path other outside = node_at-without tree path other ∙ ap (λ b. cond (not b) (node_at tree other) None) (apart_test other path outside)
+
+  pub without_gone : (tree : Tree B) (path rest : Names) → shapes (without tree path) (path ++ rest) ≡ None
+  without_gone tree path rest = ap (option_map shape) (without-below tree path rest)
+
+  pub without_there : (tree : Tree B) (path q : Names) → IsOutside path q → shapes (without tree path) q ≡ shapes tree q
+  without_there tree path q outside = ap (option_map shape) (without-elsewhere tree path q outside)
 
 -- ---- a subtree moved
 

@@ -1,28 +1,14 @@
 -- A subtree at a new path: it is a tree again.
-use Rattle.std.proofs.Common.{◌≡◌, ℕ, true, List, [], ◌∷◌, ◌++◌, Some, None, sym, ap, ◌∙◌, append_assoc, append-nil}
+use Rattle.std.proofs.Common.{◌≡◌, ℕ, true, List, [], ◌∷◌, ◌++◌, Some, sym, ap, ◌∙◌, append_assoc, append-nil}
 use Rattle.std.specs.Prelude.{◌≢◌}
-use Rattle.std.proofs.lemmas.List.{append_cancel_left}
 use Rattle.hs_types.specs.Names.{Names}
 use Rattle.hs_plain.specs.Tree.{parent_of}
-use Rattle.hs_plain.proofs.ValidShapes.{Shape, Shapes, IsTree, is_dir_shape, some_dir, none_some, there_above, by_under, by_last, parent_of-last, not_more}
+use Rattle.hs_plain.proofs.ValidShapes.{Shape, Shapes, IsTree, is_dir_shape, some_dir, by_under, by_last, parent_of-last, not_more}
 
 -- each path at or below `old` becomes one at or below `new`, in a directory that isn't itself moved
-module _ (f : Shapes) (next : ℕ) (is : IsTree f next) (old new above : Names) (name : List ℕ) (lands : new ≡ above ++ name ∷ []) (parent : is_dir_shape (f above) ≡ true) (free : f new ≡ None)
+module _ (f : Shapes) (next : ℕ) (is : IsTree f next) (old new above : Names) (name : List ℕ) (lands : new ≡ above ++ name ∷ []) (parent : is_dir_shape (f above) ≡ true)
     (below_root : old ≢ []) (outside : (rest : Names) → new ≢ old ++ rest)
     (to : Names → Names) (to_under : (rest : Names) → to (old ++ rest) ≡ new ++ rest) (to_other : (p : Names) → ((rest : Names) → p ≢ old ++ rest) → to p ≡ p) where
-  none_below : (rest : Names) (s : Shape) → f (new ++ rest) ≡ Some s → ⊥
-  none_below rest s h = let t = there_above f next is new rest s h in none_some (sym free ∙ t.1)
-
-  -- no two nodes come to one path
-  pub to_apart : (p q : Names) (a b : Shape) → f p ≡ Some a → f q ≡ Some b → to p ≡ to q → p ≡ q
-  to_apart p q a b h k e = by_under p old
-      (λ r d. by_under q old
-      (λ t c. let tails : r ≡ t = append_cancel_left new r t (sym (to_under r) ∙ ap to (sym d) ∙ e ∙ ap to c ∙ to_under t) in d ∙ ap (λ (x : Names). old ++ x) tails ∙ sym c)
-      (λ ne. absurd (none_below r b (ap f (sym (to_under r) ∙ ap to (sym d) ∙ e ∙ to_other q ne) ∙ k))))
-      (λ ne. by_under q old
-      (λ t c. absurd (none_below t a (ap f (sym (to_under t) ∙ ap to (sym c) ∙ sym e ∙ to_other p ne) ∙ h)))
-      (λ nd. sym (to_other p ne) ∙ e ∙ to_other q nd))
-
   module _ (g : Shapes) (from : (q : Names) (s : Shape) → g q ≡ Some s → (p : Names) × (f p ≡ Some s) × (to p ≡ q)) (onto : (p : Names) (s : Shape) → f p ≡ Some s → g (to p) ≡ Some s) where
     dir_onto : (p q : Names) → to p ≡ q → is_dir_shape (f p) ≡ true → is_dir_shape (g q) ≡ true
     dir_onto p q e h = let t = some_dir (f p) h in ap (λ (x : Names). is_dir_shape (g x)) (sym e) ∙ ap is_dir_shape (onto p t.0 t.1 ∙ sym t.1) ∙ h

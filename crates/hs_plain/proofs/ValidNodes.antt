@@ -1,18 +1,15 @@
 -- The ids and kinds of a tree's nodes: what the lists of places say of them, and back.
-use Rattle.std.proofs.Common.{◌≡◌, ℕ, Bool, true, false, List, [], ◌∷◌, ◌++◌, map, Option, Some, None, refl, sym, ap, ◌∙◌}
-use Rattle.std.specs.Prelude.{not, ◌&&◌, nat_lt}
-use Rattle.std.specs.List.{list_all, list_any}
+use Rattle.std.proofs.Common.{◌≡◌, ℕ, ◌<◌, true, List, [], ◌∷◌, ◌++◌, Option, Some, None, refl, sym, ap, subst, ◌∙◌}
 use Rattle.std.specs.Option.{option_map}
 use Rattle.std.specs.FinMap.Entries.{is_sorted}
-use Rattle.std.proofs.lemmas.Bool.Decides.{Decides-eqb, Decides-ltb}
+use Rattle.std.proofs.lemmas.Bool.Decides.{Decides-eqb}
 use Rattle.hs_types.specs.Names.{Names}
 use Rattle.hs_plain.specs.declared.state.Node.{Node}
-use Rattle.hs_plain.specs.Tree.{Tree, path_cmp, node_at, is_dir}
-use Rattle.hs_plain.specs.State.{same_inode}
-use Rattle.hs_plain.specs.Valid.{is_dir_node, is_dir_with, has_parent, has_parents, has_each_once, clash, has_clash}
+use Rattle.hs_plain.specs.Tree.{Tree, path_cmp, node_at, is_dir, same_inode}
+use Rattle.hs_plain.specs.Valid.{is_dir_node, is_dir_with, has_parent, has_parents, has_each_once}
 use Rattle.hs_plain.proofs.ValidTrees.{both, first, second}
 use Rattle.hs_plain.proofs.ValidShapes.{Shape, Shapes, IsTree, is_dir_shape, none_some, same_some, true_false, by_last, parent_of-last}
-use Rattle.hs_plain.proofs.ValidPlaces.{all_places, place_passes, any_fails, one_place, ids_differ}
+use Rattle.hs_plain.proofs.ValidPlaces.{all_places, place_passes, one_place, ids_differ}
 
 module _ {B : Type 0} where
   abbrev pub shape : Node B → Shape
@@ -41,41 +38,22 @@ module _ {B : Type 0} where
   has_parent-last tree [] name = ap (λ (p : Names). is_dir_node (node_at tree p)) (parent_of-last [] name)
   has_parent-last tree (other ∷ above) name = ap (λ (p : Names). is_dir_node (node_at tree p)) (parent_of-last (other ∷ above) name)
 
-  module _ (tree : Tree B) (next : ℕ) where
-    pub tree_so : is_dir_with (record { 0 = 1 }) (node_at tree []) ≡ true → has_parents tree ≡ true → has_each_once tree ≡ true → list_all (λ place. nat_lt place.1.id.0 next) tree ≡ true → IsTree (shapes tree) next
-    tree_so root parents once below = record {
-      root = root_so (node_at tree []) root;
-      above = λ q name s h. let n = shape_some _ s h in dir_shape (node_at tree q) ∙ sym (has_parent-last tree q name) ∙ place_passes (λ place. has_parent tree place.0) tree parents (q ++ name ∷ []) n.0 n.1;
-      once = λ p q a b h k same. let m = shape_some _ a h in let n = shape_some _ b k in
-          one_place tree once p q m.0 n.0 m.1 n.1 (ap (λ (s : Shape). s.0) m.2 ∙ same ∙ ap (λ (s : Shape). s.0) (sym n.2));
-      below = λ q s h. let n = shape_some _ s h in (Decides-ltb s.0 next).0 (ap (λ (s : Shape). nat_lt s.0 next) (sym n.2) ∙ place_passes (λ place. nat_lt place.1.id.0 next) tree below q n.0 n.1);
-    }
+  pub tree_so : (tree : Tree B) (next : ℕ) → is_dir_with (record { 0 = 1 }) (node_at tree []) ≡ true → has_parents tree ≡ true → has_each_once tree ≡ true → ((q : Names) (n : Node B) → node_at tree q ≡ Some n → n.id.0 < next) → IsTree (shapes tree) next
+  tree_so tree next root parents once below = record {
+    root = root_so (node_at tree []) root;
+    above = λ q name s h. let n = shape_some _ s h in dir_shape (node_at tree q) ∙ sym (has_parent-last tree q name) ∙ place_passes (λ place. has_parent tree place.0) tree parents (q ++ name ∷ []) n.0 n.1;
+    once = λ p q a b h k same. let m = shape_some _ a h in let n = shape_some _ b k in
+        one_place tree once p q m.0 n.0 m.1 n.1 (ap (λ (s : Shape). s.0) m.2 ∙ same ∙ ap (λ (s : Shape). s.0) (sym n.2));
+    below = λ q s h. let n = shape_some _ s h in subst (λ (t : Shape). t.0 < next) n.2 (below q n.0 n.1);
+  }
 
-    module _ (sorted : is_sorted path_cmp tree ≡ true) (is : IsTree (shapes tree) next) where
-      pub root-from : is_dir_with (record { 0 = 1 }) (node_at tree []) ≡ true
-      root-from = root_from (node_at tree []) is.root
+  pub root-from : (tree : Tree B) (next : ℕ) → IsTree (shapes tree) next → is_dir_with (record { 0 = 1 }) (node_at tree []) ≡ true
+  root-from tree next is = root_from (node_at tree []) is.root
 
-      pub parents-from : has_parents tree ≡ true
-      parents-from = all_places (λ place. has_parent tree place.0) tree sorted (λ q n at. by_last (λ r. node_at tree r ≡ Some n → has_parent tree r ≡ true) q (λ _. refl)
-          (λ above name at. has_parent-last tree above name ∙ sym (dir_shape (node_at tree above)) ∙ is.above above name (shape n) (ap (option_map shape) at)) at)
+  module _ (tree : Tree B) (sorted : is_sorted path_cmp tree ≡ true) where
+    pub parents-from : ((q : Names) (name : List ℕ) (s : Shape) → shapes tree (q ++ name ∷ []) ≡ Some s → is_dir_shape (shapes tree q) ≡ true) → has_parents tree ≡ true
+    parents-from above = all_places (λ place. has_parent tree place.0) tree sorted (λ q n at. by_last (λ r. node_at tree r ≡ Some n → has_parent tree r ≡ true) q (λ _. refl)
+        (λ up name at. has_parent-last tree up name ∙ sym (dir_shape (node_at tree up)) ∙ above up name (shape n) (ap (option_map shape) at)) at)
 
-      pub once-from : has_each_once tree ≡ true
-      once-from = ids_differ tree sorted (λ p q a b at bt same. is.once p q (shape a) (shape b) (ap (option_map shape) at) (ap (option_map shape) bt) same)
-
-      pub below-from : list_all (λ place. nat_lt place.1.id.0 next) tree ≡ true
-      below-from = all_places (λ place. nat_lt place.1.id.0 next) tree sorted (λ q n at. (Decides-ltb n.id.0 next).1 (is.below q (shape n) (ap (option_map shape) at)))
-
-      no_clash : (p q : Names) (a b : Node B) → node_at tree p ≡ Some a → node_at tree q ≡ Some b → clash a b ≡ false
-      no_clash p q a b at bt = elim (same_inode a.id b.id) as (λ t. same_inode a.id b.id ≡ t → (t && is_dir a && not (is_dir b)) ≡ false) [
-        | true ↦ λ t. let path : p ≡ q = is.once p q (shape a) (shape b) (ap (option_map shape) at) (ap (option_map shape) bt) ((Decides-eqb a.id.0 b.id.0).0 t) in
-            let node : a ≡ b = same_some (sym at ∙ ap (node_at tree) path ∙ bt) in ap (λ (n : Node B). is_dir n && not (is_dir b)) node ∙ not_both (is_dir b)
-        | false ↦ λ t. refl
-      ] refl
-        where
-          not_both : (x : Bool) → (x && not x) ≡ false
-          not_both true = refl
-          not_both false = refl
-
-      pub one_kind-from : has_clash (map (λ place. place.1) tree) ≡ false
-      one_kind-from = any_fails (λ place. place.1) (λ a. list_any (clash a) (map (λ place. place.1) tree)) tree sorted
-          (λ p a at. any_fails (λ place. place.1) (clash a) tree sorted (λ q b bt. no_clash p q a b at bt))
+    pub once-from : ((p q : Names) (a b : Shape) → shapes tree p ≡ Some a → shapes tree q ≡ Some b → a.0 ≡ b.0 → p ≡ q) → has_each_once tree ≡ true
+    once-from once = ids_differ tree sorted (λ p q a b at bt same. once p q (shape a) (shape b) (ap (option_map shape) at) (ap (option_map shape) bt) same)

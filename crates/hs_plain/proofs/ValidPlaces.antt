@@ -1,6 +1,6 @@
 -- What holds of each place of a tree in order, and what holds of each node that a path leads to.
 use Rattle.std.proofs.Common.{◌≡◌, ℕ, Bool, true, false, cond, [], ◌∷◌, map, Some, None, refl, sym, ap, ◌∙◌}
-use Rattle.std.specs.Prelude.{not, ◌||◌, ◌==◌}
+use Rattle.std.specs.Prelude.{not, ◌==◌}
 use Rattle.std.specs.List.{list_all, list_any}
 use Rattle.std.specs.Ordering.{is_lt, is_eq, eq_by_cmp}
 use Rattle.std.specs.declared.cmp.Ordering.{Ordering}
@@ -12,6 +12,7 @@ use Rattle.hs_plain.specs.declared.state.Node.{Node}
 use Rattle.hs_plain.specs.Tree.{Tree, path_cmp, node_at}
 use Rattle.hs_plain.specs.Valid.{all_differ}
 use Rattle.hs_plain.proofs.ValidTrees.{both, first, second}
+use Rattle.hs_plain.proofs.ValidLists.{neither, neither_first, neither_second, not_so}
 use Rattle.hs_plain.proofs.ValidShapes.{same_so, same-itself, none_some, same_some, true_false}
 
 -- ---- tests
@@ -20,21 +21,6 @@ not_equal : (r : Ordering) → is_lt r ≡ true → is_eq r ≡ false
 not_equal Less h = refl
 not_equal Equal h = cc
 not_equal Greater h = cc
-
-neither : {a b : Bool} → a ≡ false → b ≡ false → (a || b) ≡ false
-neither {a} {b} h g = ap (λ x. x || b) h ∙ g
-
-neither_first : (a b : Bool) → (a || b) ≡ false → a ≡ false
-neither_first true b h = cc
-neither_first false b h = refl
-
-neither_second : (a b : Bool) → (a || b) ≡ false → b ≡ false
-neither_second true b h = cc
-neither_second false b h = h
-
-not_so : (b : Bool) → not b ≡ true → b ≡ false
-not_so true h = cc
-not_so false h = refl
 
 -- ---- places
 

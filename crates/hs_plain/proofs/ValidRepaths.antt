@@ -1,17 +1,15 @@
 -- The nodes of a tree whose places have been put in again under other paths.
 use Rattle.std.proofs.Common.{◌≡◌, true, [], ◌∷◌, map, Some, refl, sym, ap, ◌∙◌}
 use Rattle.std.specs.Prelude.{◌≢◌}
-use Rattle.std.specs.Option.{option_map}
 use Rattle.std.specs.FinMap.Entries.{put, is_sorted, below_all}
 use Rattle.hs_types.specs.Names.{Names}
 use Rattle.hs_plain.specs.declared.state.Node.{Node}
 use Rattle.hs_plain.specs.Tree.{Tree, path_cmp, node_at}
-use Rattle.hs_plain.specs.Change.{repath, put_all, moved}
+use Rattle.hs_plain.specs.Change.{put_all}
 use Rattle.hs_plain.proofs.ValidTrees.{first, second}
-use Rattle.hs_plain.proofs.ValidShapes.{Shape, by_same, none_some}
+use Rattle.hs_plain.proofs.ValidShapes.{by_same, none_some}
 use Rattle.hs_plain.proofs.ValidPlaces.{missing_below, head_at, in_tail, by_place}
-use Rattle.hs_plain.proofs.ValidNodes.{shape, shapes, shape_some}
-use Rattle.hs_plain.proofs.ValidChanges.{put_here, put_there, moved_path, repath-is}
+use Rattle.hs_plain.proofs.ValidChanges.{put_here, put_there}
 
 module _ {B : Type 0} (to : Names → Names) (act : Names × Node B → Names × Node B) (acts : (place : Names × Node B) → act place ≡ (to place.0, place.1)) where
   path_acts : (e : Names × Node B) → (act e).0 ≡ to e.0
@@ -49,16 +47,3 @@ module _ {B : Type 0} (to : Names → Names) (act : Names × Node B → Names ×
       (λ q m qt d. none_some (sym (missing_below e.0 es above) ∙ ap (node_at es) (sym (apart q p m n (in_tail e es q m above qt) at d ∙ pe)) ∙ qt))
       ∙ ap (node_at (put path_cmp (act e).0 (act e).1 acc)) (ap to pe ∙ sym (path_acts e)) ∙ put_here (act e).0 (act e).1 acc ∙ ap (λ (x : Node B). Some x) (node_acts e ∙ sym ne))
       (λ bt. put_all_onto es (put path_cmp (act e).0 (act e).1 acc) (second (below_all path_cmp e.0 es) _ h) (λ x y a b xt yt. apart x y a b (in_tail e es x a above xt) (in_tail e es y b above yt)) p n bt)
-
-module _ {B : Type 0} (tree : Tree B) (old new : Names) (sorted : is_sorted path_cmp tree ≡ true) where
-  pub moved_from : (q : Names) (s : Shape) → shapes (moved tree old new) q ≡ Some s → (p : Names) × (shapes tree p ≡ Some s) × (moved_path old new p ≡ q)
-  moved_from q s h = let n = shape_some (node_at (moved tree old new) q) s h in
-      put_all_from (moved_path old new) (repath old new) (repath-is old new) tree [] q n.0 sorted n.1
-      (λ none. absurd (none_some none))
-      (λ p at d. (p, ap (option_map shape) at ∙ ap (λ (x : Shape). Some x) n.2, d))
-
-  pub moved_onto : ((p q : Names) (a b : Shape) → shapes tree p ≡ Some a → shapes tree q ≡ Some b → moved_path old new p ≡ moved_path old new q → p ≡ q)
-      → (p : Names) (s : Shape) → shapes tree p ≡ Some s → shapes (moved tree old new) (moved_path old new p) ≡ Some s
-  moved_onto apart p s h = let n = shape_some (node_at tree p) s h in
-      ap (option_map shape) (put_all_onto (moved_path old new) (repath old new) (repath-is old new) tree [] sorted
-      (λ x y a b xt yt d. apart x y (shape a) (shape b) (ap (option_map shape) xt) (ap (option_map shape) yt) d) p n.0 n.1) ∙ ap (λ (x : Shape). Some x) n.2

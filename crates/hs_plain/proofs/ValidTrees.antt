@@ -1,6 +1,6 @@
 -- The live tree's paths rise in each state that entries lead to.
 use lib.Dec.{T}
-use Rattle.std.proofs.Common.{◌≡◌, ℕ, ◌+◌, Bool, true, false, cond, List, [], ◌∷◌, map, Ok, Err, refl, sym, ap, subst, ◌∙◌}
+use Rattle.std.proofs.Common.{◌≡◌, ℕ, ◌+◌, Bool, true, false, cond, List, [], ◌∷◌, ◌++◌, map, Ok, Err, refl, sym, ap, subst, ◌∙◌}
 use Rattle.std.specs.Prelude.{not, ◌&&◌, bytes_eq}
 use Rattle.std.specs.List.{starts_with}
 use Rattle.std.specs.Ordering.{is_lt}
@@ -10,17 +10,19 @@ use Rattle.std.proofs.lemmas.Cmp.{lists_total}
 use Rattle.std.specs.FinMap.{IsAntisymmetric, nat_cmp-IsAntisymmetric, slice_cmp-IsAntisymmetric}
 use Rattle.std.specs.FinMap.Entries.{put, is_sorted, below_all, is_sorted-put, is_sorted-where_key}
 use Rattle.hs_types.specs.Names.{Names}
+use Rattle.hs_types.specs.declared.ids.InodeId.{InodeId}
 use Rattle.hs_types.specs.declared.call.Call.{Call}
 use Rattle.hs_types.specs.declared.call.Call.TheVariants as calls
-use Rattle.hs_types.specs.declared.call.Entry.{Entry}
+use Rattle.hs_types.specs.declared.journal.Entry.{Entry}
 use Rattle.hs_plain.specs.declared.state.Node.{Node}
 use Rattle.hs_plain.specs.declared.state.State.{State}
 use Rattle.hs_plain.specs.Asked.{Asked}
 use Rattle.hs_plain.specs.Files.{Files}
 use Rattle.hs_plain.specs.Tree.{Tree, path_cmp, same_path, parent_of}
-use Rattle.hs_plain.specs.State.{start, new_dir}
-use Rattle.hs_plain.specs.Answer.{mkdir_at, create_at, delete_at, rename_at, set_mode_at, append_at}
-use Rattle.hs_plain.specs.Change.{restamp, stamped, remode, moded, without, repath, put_all, moved, new_file, with_node, made_dir, made_file, removed, renamed, with_mode, with_file, refilled, appended, if_asked, change, takes_effect, changed_if, after}
+use Rattle.hs_plain.specs.State.{start, new_dir, is_snapshottable}
+use Rattle.hs_plain.specs.Snapshotting.{allow_at, disallow_at, snap_at, snap_del_at, snap_ren_at}
+use Rattle.hs_plain.specs.Modifying.{mkdir_at, create_at, delete_at, rename_at, set_mode_at, append_at}
+use Rattle.hs_plain.specs.Change.{restamp, stamped, remode, moded, without, repath, put_all, moved, new_file, with_node, made_dir, made_file, removed, renamed, with_mode, with_file, refilled, appended, allowed, disallowed, snapped, unsnapped, resnapped, if_asked, change, takes_effect, changed_if, after}
 use Rattle.hs_plain.specs.Replay.{replay_from, replay}
 
 -- ---- the order of paths
@@ -111,6 +113,12 @@ module _ {B : Type 0} where
   pub sorted-with_file : (state : State B) (path : Names) (node : Node B) (file : B) → is_sorted path_cmp state.tree ≡ true → is_sorted path_cmp (with_file state path node file).tree ≡ true
   sorted-with_file state path node file h = sorted-put path (refilled node file (state.tick + 1)) state.tree h
 
+  sorted-allowed : (state : State B) (id : InodeId) → is_sorted path_cmp state.tree ≡ true → is_sorted path_cmp (allowed state id).tree ≡ true
+  sorted-allowed state id h = elim (is_snapshottable state id) as (λ b. is_sorted path_cmp (State.tree (cond b state (record state { snapshottable = state.snapshottable ++ id ∷ [] }))) ≡ true) [
+    | true ↦ h
+    | false ↦ h
+  ]
+
   pub sorted-change : (files : Files B) (state : State B) (call : Call) → is_sorted path_cmp state.tree ≡ true → is_sorted path_cmp (change files state call).tree ≡ true
   sorted-change files state (calls.Mkdir path) h =
       if_asked-keeps IsOrdered (made_dir state) state (mkdir_at state path) h (λ p _. sorted-with_node state p (new_dir state.next_inode (state.tick + 1)) h)
@@ -125,6 +133,16 @@ module _ {B : Type 0} where
   sorted-change files state (calls.ReadNext cursor len) h = h
   sorted-change files state (calls.Stat path) h = h
   sorted-change files state (calls.List path size) h = h
+  sorted-change files state (calls.Allow path) h = if_asked-keeps IsOrdered (allowed state) state (allow_at state path) h (λ id _. sorted-allowed state id h)
+  sorted-change files state (calls.Disallow path) h = if_asked-keeps IsOrdered (disallowed state) state (disallow_at state path) h (λ id _. h)
+  sorted-change files state (calls.Snap path name) h = if_asked-keeps IsOrdered (snapped state name) state (snap_at state path name) h (λ at _. h)
+  sorted-change files state (calls.SnapDel path name) h = if_asked-keeps IsOrdered (unsnapped state) state (snap_del_at state path name) h (λ id _. h)
+  sorted-change files state (calls.SnapRen path old new) h = if_asked-keeps IsOrdered (resnapped state new) state (snap_ren_at state path old new) h (λ id _. h)
+  sorted-change files state (calls.ListNext cursor size) h = h
+  sorted-change files state (calls.Snaps path) h = h
+  sorted-change files state calls.Dirs h = h
+  sorted-change files state (calls.Report path from to size) h = h
+  sorted-change files state (calls.ReportNext cursor size) h = h
 
   pub sorted-after : (files : Files B) (state : State B) (entry : Entry) → is_sorted path_cmp state.tree ≡ true → is_sorted path_cmp (after files state entry).tree ≡ true
   sorted-after files state entry h = elim (takes_effect entry) as (λ b. is_sorted path_cmp (changed_if b files state entry.call).tree ≡ true) [

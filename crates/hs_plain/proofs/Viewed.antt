@@ -2,7 +2,7 @@
 use Rattle.std.proofs.Common.{◌≡◌, ℕ, ◌+◌, ◌&&◌, ◌||◌, ◌==◌, bytes_eq, Bool, true, false, cond, Option, Some, None, Ok, Err, is_some, List, [], ◌∷◌, ◌++◌, map, length, refl, ap, ◌∙◌}
 use Rattle.std.specs.Prelude.{not, nat_lt}
 use Rattle.std.specs.Option.{option_map}
-use Rattle.std.specs.List.{cons_option}
+use Rattle.std.specs.List.{cons_option, list_any}
 use Rattle.std.proofs.lemmas.List.Folds.{fold-map}
 use Rattle.std.specs.Ordering.{eq_by_cmp}
 use Rattle.hs_types.specs.Names.{Names}
@@ -12,12 +12,12 @@ use Rattle.hs_types.specs.declared.ids.SnapId.{SnapId}
 use Rattle.hs_types.specs.declared.path.Path.{Path}
 use Rattle.hs_types.specs.declared.path.PathTail.{PathTail}
 use Rattle.hs_types.specs.declared.path.PathTail.TheVariants.{Plain, SnapshotList, Frozen}
-use Rattle.hs_types.specs.declared.call.Refusal.TheVariants.{NotFound, NotDir, NotFile, Exists, IsRoot, NotEmpty, IntoItself, Gone}
-use Rattle.hs_types.specs.declared.call.Reply.{Reply}
-use Rattle.hs_types.specs.declared.call.Reply.TheVariants as replies
+use Rattle.hs_types.specs.declared.refusal.Refusal.TheVariants.{NotFound, NotDir, NotFile, Exists, IsRoot, NotEmpty, HasSnapshots, IntoItself, Nested, Gone}
+use Rattle.hs_types.specs.declared.reply.Reply.{Reply}
+use Rattle.hs_types.specs.declared.reply.Reply.TheVariants as replies
 use Rattle.hs_types.specs.declared.call.Place.{Place}
 use Rattle.hs_types.specs.declared.call.Place.TheVariants as places
-use Rattle.hs_types.specs.declared.call.Item.{Item}
+use Rattle.hs_types.specs.declared.reply.Item.{Item}
 use Rattle.hs_types.specs.declared.call.ReadCursor.{ReadCursor}
 use Rattle.hs_types.specs.declared.call.Call.{Call}
 use Rattle.hs_types.specs.declared.call.Call.TheVariants as calls
@@ -28,9 +28,13 @@ use Rattle.hs_plain.specs.declared.state.Member.{Member}
 use Rattle.hs_plain.specs.declared.state.State.{State}
 use Rattle.hs_plain.specs.Asked.{Asked, ◌>>=◌, refuse_if, both}
 use Rattle.hs_plain.specs.Files.{Files}
-use Rattle.hs_plain.specs.Tree.{Tree, path_cmp, node_at, is_dir_body, is_dir, passes, walks_from, walks_above, found, walk, child_item, named_item, name_below, listing, size_of, is_root_path, is_above}
-use Rattle.hs_plain.specs.State.{is_snapshottable, if_snapshottable, snapshot_root, member_named, member_with, resolve, resolve_tail, same_inode, place_of, items_of, items_at, snapshot_items, with_item, snapshots_of}
-use Rattle.hs_plain.specs.Answer.{page_of, live_path, mkdir_at, takes_place_of, create_at, spares_children, delete_at, may_move, rename_at, set_mode_at, list_reply, node_stat, list_stat, stat_at, stat_reply, file_in, append_at, file_there, file_at, page_at, found_file, read_reply, is_live, is_gone, next_file, next_reply, made_reply, replied, asked, told, answer_by, is_modifying, uses_store}
+use Rattle.hs_plain.specs.Tree.{Tree, path_cmp, node_at, is_dir_body, is_dir, passes, walks_from, walks_above, found, walk, child_item, named_item, name_below, listing, size_of, is_root_path, is_above, is_under, same_inode, place_of}
+use Rattle.hs_plain.specs.State.{is_snapshottable, if_snapshottable, snapshot_root, member_named, member_with, resolve, resolve_tail, items_of, items_at, snapshot_items, with_item, snapshots_of, has_snapshots, holds_snapshots, holds_snapshottable, is_in_snapshottable}
+use Rattle.hs_plain.specs.Pages.{page_of}
+use Rattle.hs_plain.specs.Modifying.{live_path, mkdir_at, takes_place_of, create_at, spares_children, delete_at, would_nest, may_move, rename_at, set_mode_at, file_in, append_at}
+use Rattle.hs_plain.specs.Reading.{list_reply, node_stat, list_stat, stat_at, stat_reply, file_there, file_at, page_at, found_file, read_reply, is_live, is_gone, next_file, next_reply}
+use Rattle.hs_plain.specs.Answer.{made_reply, replied, asked, is_modifying, uses_store}
+use Rattle.hs_plain.specs.Served.{is_served}
 use Rattle.hs_plain.specs.Viewed.{viewed_body, viewed_node, viewed_place, viewed_tree, viewed_member, viewed}
 
 -- one test after another answers alike, where its answers do
@@ -75,16 +79,17 @@ appends tree path = do
   file ← file_in node.body
   Ok (path, node, file)
 
-abbrev deletes : {B : Type 0} → Tree B → Bool → Names → Asked Names
-deletes tree recursive path = do
-  node ← walk tree path
+abbrev deletes : {B : Type 0} → State B → Bool → Names → Asked Names
+deletes state recursive path = do
+  node ← walk state.tree path
   below ← refuse_if (is_root_path path) IsRoot
-  alone ← refuse_if (spares_children tree path recursive) NotEmpty
+  alone ← refuse_if (spares_children state.tree path recursive) NotEmpty
+  free ← refuse_if (holds_snapshots state path) HasSnapshots
   Ok path
 
-abbrev moves : {B : Type 0} → Tree B → Names × Names → Asked (Names × Names)
-moves tree paths = do
-  apart ← may_move tree paths.0 paths.1
+abbrev moves : {B : Type 0} → State B → Names × Names → Asked (Names × Names)
+moves state paths = do
+  apart ← may_move state paths.0 paths.1
   Ok paths
 
 abbrev sets_mode : {B : Type 0} → Tree B → Names → Asked Names
@@ -302,22 +307,53 @@ module _ {A B : Type 0} (read : A → B) where
       then-mapped (live_path text) (appends state.tree) (appends (viewed_tree read state.tree)) viewed_file
       (λ path. ap (λ (w : Asked (Node B)). w >>= λ n. (file_in n.body >>= λ f. Ok (path, n, f))) (walk-viewed state.tree path) ∙ appends_to-viewed path (walk state.tree path))
 
-  deletes-viewed : (tree : Tree A) (recursive : Bool) (path : Names) → deletes (viewed_tree read tree) recursive path ≡ deletes tree recursive path
-  deletes-viewed tree recursive path =
-      seen_walk-viewed tree path (refuse_if (is_root_path path) IsRoot >>= λ _. (refuse_if (spares_children (viewed_tree read tree) path recursive) NotEmpty >>= λ _. Ok path))
-      ∙ ap (λ n. walk tree path >>= λ _. (refuse_if (is_root_path path) IsRoot >>= λ _. (refuse_if (not recursive && nat_lt 0 n) NotEmpty >>= λ _. Ok path))) (ap length (listing-viewed tree path))
+  -- ---- snapshottable directories and snapshots at places
+
+  any-viewed : (f : Names × Node B → Bool) (g : Names × Node A → Bool) → ((place : Names × Node A) → f (viewed_place read place) ≡ g place) → (tree : Tree A) → list_any f (viewed_tree read tree) ≡ list_any g tree
+  any-viewed f g same [] = refl
+  any-viewed f g same (place ∷ tree) = ap (λ b. b || list_any f (viewed_tree read tree)) (same place) ∙ ap (λ b. g place || b) (any-viewed f g same tree)
+
+  has_snapshots-viewed : (members : List (Member A)) (dir : InodeId) → list_any (λ (member : Member B). same_inode member.directory dir) (map (viewed_member read) members) ≡ list_any (λ (member : Member A). same_inode member.directory dir) members
+  has_snapshots-viewed [] dir = refl
+  has_snapshots-viewed (member ∷ members) dir = ap (λ b. same_inode member.directory dir || b) (has_snapshots-viewed members dir)
+
+  holds_snapshots-viewed : (state : State A) (path : Names) → holds_snapshots (viewed read state) path ≡ holds_snapshots state path
+  holds_snapshots-viewed state path =
+      any-viewed (λ place. has_snapshots (viewed read state) place.1.id && is_under path place) (λ place. has_snapshots state place.1.id && is_under path place)
+      (λ place. ap (λ b. b && is_under path place) (has_snapshots-viewed state.members place.1.id)) state.tree
+
+  would_nest-viewed : (state : State A) (old new : Names) → would_nest (viewed read state) old new ≡ would_nest state old new
+  would_nest-viewed state old new =
+      ap (λ b. b && is_in_snapshottable (viewed read state) new)
+      (any-viewed (λ place. is_snapshottable (viewed read state) place.1.id && is_under old place) (λ place. is_snapshottable state place.1.id && is_under old place) (λ place. refl) state.tree)
+      ∙ ap (λ b. holds_snapshottable state old && b)
+      (any-viewed (λ place. is_snapshottable (viewed read state) place.1.id && is_above place.0 new) (λ place. is_snapshottable state place.1.id && is_above place.0 new) (λ place. refl) state.tree)
+
+  deletes-viewed : (state : State A) (recursive : Bool) (path : Names) → deletes (viewed read state) recursive path ≡ deletes state recursive path
+  deletes-viewed state recursive path =
+      seen_walk-viewed state.tree path (refuse_if (is_root_path path) IsRoot >>= λ _. (refuse_if (spares_children (viewed_tree read state.tree) path recursive) NotEmpty >>= λ _. (refuse_if (holds_snapshots (viewed read state) path) HasSnapshots >>= λ _. Ok path)))
+      ∙ ap (λ n. walk state.tree path >>= λ _. (refuse_if (is_root_path path) IsRoot >>= λ _. (refuse_if (not recursive && nat_lt 0 n) NotEmpty >>= λ _. (refuse_if (holds_snapshots (viewed read state) path) HasSnapshots >>= λ _. Ok path)))) (ap length (listing-viewed state.tree path))
+      ∙ ap (λ b. walk state.tree path >>= λ _. (refuse_if (is_root_path path) IsRoot >>= λ _. (refuse_if (spares_children state.tree path recursive) NotEmpty >>= λ _. (refuse_if b HasSnapshots >>= λ _. Ok path)))) (holds_snapshots-viewed state path)
 
   pub delete_at-viewed : (state : State A) (text : List ℕ) (recursive : Bool) → delete_at (viewed read state) text recursive ≡ delete_at state text recursive
-  delete_at-viewed state text recursive = then-same (live_path text) (deletes (viewed_tree read state.tree) recursive) (deletes state.tree recursive) (deletes-viewed state.tree recursive)
+  delete_at-viewed state text recursive = then-same (live_path text) (deletes (viewed read state) recursive) (deletes state recursive) (deletes-viewed state recursive)
 
-  may_move-viewed : (tree : Tree A) (old new : Names) → may_move (viewed_tree read tree) old new ≡ may_move tree old new
-  may_move-viewed tree old new =
-      both_walks-viewed tree old new (refuse_if (is_some (node_at (viewed_tree read tree) new)) Exists >>= λ _. (refuse_if (is_root_path old) IsRoot >>= λ _. refuse_if (is_above old new) IntoItself))
-      ∙ ap (λ b. both (walk tree old) (walks_above tree new) >>= λ _. (refuse_if b Exists >>= λ _. (refuse_if (is_root_path old) IsRoot >>= λ _. refuse_if (is_above old new) IntoItself))) (taken-viewed tree new)
+  -- the tests of a move behind its walks
+  abbrev rest_of_move : Names → Names → Bool → Bool → Bool → Asked (Unit {0})
+  rest_of_move old new taken held nested =
+      refuse_if taken Exists >>= λ _. (refuse_if (is_root_path old) IsRoot >>= λ _. (refuse_if held HasSnapshots >>= λ _. (refuse_if (is_above old new) IntoItself >>= λ _. refuse_if nested Nested)))
+
+  may_move-viewed : (state : State A) (old new : Names) → may_move (viewed read state) old new ≡ may_move state old new
+  may_move-viewed state old new =
+      let walks = both (walk state.tree old) (walks_above state.tree new) in
+      both_walks-viewed state.tree old new (rest_of_move old new (is_some (node_at (viewed_tree read state.tree) new)) (holds_snapshots (viewed read state) old) (would_nest (viewed read state) old new))
+      ∙ ap (λ b. walks >>= λ _. rest_of_move old new b (holds_snapshots (viewed read state) old) (would_nest (viewed read state) old new)) (taken-viewed state.tree new)
+      ∙ ap (λ b. walks >>= λ _. rest_of_move old new (is_some (node_at state.tree new)) b (would_nest (viewed read state) old new)) (holds_snapshots-viewed state old)
+      ∙ ap (λ b. walks >>= λ _. rest_of_move old new (is_some (node_at state.tree new)) (holds_snapshots state old) b) (would_nest-viewed state old new)
 
   pub rename_at-viewed : (state : State A) (old new : List ℕ) → rename_at (viewed read state) old new ≡ rename_at state old new
   rename_at-viewed state old new =
-      then-same (both (live_path old) (live_path new)) (moves (viewed_tree read state.tree)) (moves state.tree) (λ paths. ap (λ (apart : Asked (Unit {0})). apart >>= λ _. Ok paths) (may_move-viewed state.tree paths.0 paths.1))
+      then-same (both (live_path old) (live_path new)) (moves (viewed read state)) (moves state) (λ paths. ap (λ (apart : Asked (Unit {0})). apart >>= λ _. Ok paths) (may_move-viewed state paths.0 paths.1))
 
   pub set_mode_at-viewed : (state : State A) (text : List ℕ) → set_mode_at (viewed read state) text ≡ set_mode_at state text
   set_mode_at-viewed state text = then-same (live_path text) (sets_mode (viewed_tree read state.tree)) (sets_mode state.tree) (λ path. seen_walk-viewed state.tree path (Ok path))
@@ -426,6 +462,16 @@ module _ {A B : Type 0} (read : A → B) (fa : Files A) (fb : Files B) (seen : R
   read-viewed state (calls.ReadNext cursor len) reads uses = next_reply-viewed state cursor len
   read-viewed state (calls.Stat path) reads uses = absurd (cc)
   read-viewed state (calls.List path size) reads uses = absurd (cc)
+  read-viewed state (calls.Allow path) reads uses = absurd (cc)
+  read-viewed state (calls.Disallow path) reads uses = absurd (cc)
+  read-viewed state (calls.Snap path name) reads uses = absurd (cc)
+  read-viewed state (calls.SnapDel path name) reads uses = absurd (cc)
+  read-viewed state (calls.SnapRen path old new) reads uses = absurd (cc)
+  read-viewed state (calls.ListNext cursor size) reads uses = absurd (cc)
+  read-viewed state (calls.Snaps path) reads uses = absurd (cc)
+  read-viewed state calls.Dirs reads uses = absurd (cc)
+  read-viewed state (calls.Report path from to size) reads uses = absurd (cc)
+  read-viewed state (calls.ReportNext cursor size) reads uses = absurd (cc)
 
 -- ---- answers
 
@@ -457,18 +503,25 @@ module _ {A B : Type 0} (read : A → B) (fa : Files A) (fb : Files B) (sizes : 
   stat_reply-viewed : (state : State A) (text : List ℕ) → stat_reply fb (viewed read state) text ≡ stat_reply fa state text
   stat_reply-viewed state text = at_place-viewed read state text (stat_at fb (viewed read state)) (stat_at fa state) (stat_at-viewed state)
 
-  -- the answer of a call that reads no file
-  pub asked-viewed : (state : State A) (call : Call) → (uses_store call && not (is_modifying call)) ≡ false → asked fb (viewed read state) call ≡ asked fa state call
-  asked-viewed state (calls.Mkdir path) no_read = ap (replied (made_reply state)) (mkdir_at-viewed read state path)
-  asked-viewed state (calls.Create path over) no_read = ap (replied (made_reply state)) (create_at-viewed read state path over)
-  asked-viewed state (calls.Append path bytes) no_read = ap (replied replies.Done) (append_at-viewed read state path) ∙ replied-mapped replies.Done (viewed_file read) (append_at state path)
-  asked-viewed state (calls.Delete path recursive) no_read = ap (replied replies.Done) (delete_at-viewed read state path recursive)
-  asked-viewed state (calls.Rename old new) no_read = ap (replied replies.Done) (rename_at-viewed read state old new)
-  asked-viewed state (calls.SetMode path mode) no_read = ap (replied replies.Done) (set_mode_at-viewed read state path)
-  asked-viewed state (calls.Read path offset len) no_read = absurd (cc)
-  asked-viewed state (calls.ReadNext cursor len) no_read = absurd (cc)
-  asked-viewed state (calls.Stat path) no_read = stat_reply-viewed state path
-  asked-viewed state (calls.List path size) no_read = list_reply-viewed read state path size
-
-  pub answer-viewed : (state : State A) (call : Call) → (uses_store call && not (is_modifying call)) ≡ false → answer_by fb (viewed read state) call ≡ answer_by fa state call
-  answer-viewed state call no_read = ap told (asked-viewed state call no_read)
+  -- the answer of a call that is served and reads no file
+  pub asked-viewed : (state : State A) (call : Call) → is_served call ≡ true → (uses_store call && not (is_modifying call)) ≡ false → asked fb (viewed read state) call ≡ asked fa state call
+  asked-viewed state (calls.Mkdir path) served no_read = ap (replied (made_reply state)) (mkdir_at-viewed read state path)
+  asked-viewed state (calls.Create path over) served no_read = ap (replied (made_reply state)) (create_at-viewed read state path over)
+  asked-viewed state (calls.Append path bytes) served no_read = ap (replied replies.Done) (append_at-viewed read state path) ∙ replied-mapped replies.Done (viewed_file read) (append_at state path)
+  asked-viewed state (calls.Delete path recursive) served no_read = ap (replied replies.Done) (delete_at-viewed read state path recursive)
+  asked-viewed state (calls.Rename old new) served no_read = ap (replied replies.Done) (rename_at-viewed read state old new)
+  asked-viewed state (calls.SetMode path mode) served no_read = ap (replied replies.Done) (set_mode_at-viewed read state path)
+  asked-viewed state (calls.Read path offset len) served no_read = absurd (cc)
+  asked-viewed state (calls.ReadNext cursor len) served no_read = absurd (cc)
+  asked-viewed state (calls.Stat path) served no_read = stat_reply-viewed state path
+  asked-viewed state (calls.List path size) served no_read = list_reply-viewed read state path size
+  asked-viewed state (calls.Allow path) served no_read = absurd (cc)
+  asked-viewed state (calls.Disallow path) served no_read = absurd (cc)
+  asked-viewed state (calls.Snap path name) served no_read = absurd (cc)
+  asked-viewed state (calls.SnapDel path name) served no_read = absurd (cc)
+  asked-viewed state (calls.SnapRen path old new) served no_read = absurd (cc)
+  asked-viewed state (calls.ListNext cursor size) served no_read = absurd (cc)
+  asked-viewed state (calls.Snaps path) served no_read = absurd (cc)
+  asked-viewed state calls.Dirs served no_read = absurd (cc)
+  asked-viewed state (calls.Report path from to size) served no_read = absurd (cc)
+  asked-viewed state (calls.ReportNext cursor size) served no_read = absurd (cc)

@@ -13,10 +13,12 @@ use Rattle.hs_plain.specs.declared.state.Body.TheVariants.{File}
 use Rattle.hs_plain.specs.declared.state.State.{State}
 use Rattle.hs_plain.specs.Asked.{Asked}
 use Rattle.hs_plain.specs.Files.{Files}
-use Rattle.hs_plain.specs.Tree.{Tree, path_cmp, parent_of, same_path}
-use Rattle.hs_plain.specs.State.{new_dir, place_of}
-use Rattle.hs_plain.specs.Answer.{mkdir_at, create_at, delete_at, rename_at, set_mode_at, append_at, uses_store}
-use Rattle.hs_plain.specs.Change.{restamp, stamped, remode, moded, is_under, without, new_path, at_new, repath, put_all, moved, new_file, with_node, made_dir, made_file, still_in, removed, renamed, with_mode, refilled, with_file, appended, if_asked, change}
+use Rattle.hs_plain.specs.Tree.{Tree, path_cmp, parent_of, same_path, place_of, is_under}
+use Rattle.hs_plain.specs.State.{new_dir}
+use Rattle.hs_plain.specs.Modifying.{mkdir_at, create_at, delete_at, rename_at, set_mode_at, append_at}
+use Rattle.hs_plain.specs.Answer.{uses_store}
+use Rattle.hs_plain.specs.Change.{restamp, stamped, remode, moded, without, new_path, at_new, repath, put_all, moved, new_file, with_node, made_dir, made_file, still_in, removed, renamed, with_mode, refilled, with_file, appended, if_asked, change}
+use Rattle.hs_plain.specs.Served.{is_served}
 use Rattle.hs_plain.specs.Viewed.{viewed_node, viewed_place, viewed_tree, viewed}
 use Rattle.hs_plain.proofs.Viewed.{place_of-viewed, mkdir_at-viewed, create_at-viewed, delete_at-viewed, rename_at-viewed, set_mode_at-viewed, mapped, viewed_file, append_at-viewed}
 
@@ -143,27 +145,37 @@ module _ {A B : Type 0} (read : A → B) (fa : Files A) (fb : Files B) (empty : 
       ap (λ (file : B). with_node (viewed read state) path (record { id = record { 0 = state.next_inode }; mode = 420; stamp = state.tick + 1; body = File file })) (sym empty)
       ∙ with_node-viewed read state path (new_file fa state.next_inode (state.tick + 1))
 
-  -- what uses no store
-  pub change-viewed : (state : State A) (call : Call) → uses_store call ≡ false → change fb (viewed read state) call ≡ viewed read (change fa state call)
-  change-viewed state (calls.Mkdir path) no_store =
+  -- what is served and uses no store
+  pub change-viewed : (state : State A) (call : Call) → is_served call ≡ true → uses_store call ≡ false → change fb (viewed read state) call ≡ viewed read (change fa state call)
+  change-viewed state (calls.Mkdir path) served no_store =
       ap (if_asked (made_dir (viewed read state)) (viewed read state)) (mkdir_at-viewed read state path) ∙ if_asked-viewed read (made_dir state) (made_dir (viewed read state)) state (made_dir-viewed read state) (mkdir_at state path)
-  change-viewed state (calls.Create path over) no_store =
+  change-viewed state (calls.Create path over) served no_store =
       ap (if_asked (made_file fb (viewed read state)) (viewed read state)) (create_at-viewed read state path over)
       ∙ if_asked-viewed read (made_file fa state) (made_file fb (viewed read state)) state (made_file-viewed state) (create_at state path over)
-  change-viewed state (calls.Append path bytes) no_store = absurd (cc)
-  change-viewed state (calls.Delete path recursive) no_store =
+  change-viewed state (calls.Append path bytes) served no_store = absurd (cc)
+  change-viewed state (calls.Delete path recursive) served no_store =
       ap (if_asked (removed (viewed read state)) (viewed read state)) (delete_at-viewed read state path recursive) ∙ if_asked-viewed read (removed state) (removed (viewed read state)) state (removed-viewed read state) (delete_at state path recursive)
-  change-viewed state (calls.Rename old new) no_store =
+  change-viewed state (calls.Rename old new) served no_store =
       ap (if_asked (renamed (viewed read state)) (viewed read state)) (rename_at-viewed read state old new) ∙ if_asked-viewed read (renamed state) (renamed (viewed read state)) state (renamed-viewed read state) (rename_at state old new)
-  change-viewed state (calls.SetMode path mode) no_store =
+  change-viewed state (calls.SetMode path mode) served no_store =
       ap (if_asked (with_mode (viewed read state) mode) (viewed read state)) (set_mode_at-viewed read state path)
       ∙ if_asked-viewed read (with_mode state mode) (with_mode (viewed read state) mode) state (with_mode-viewed read state mode) (set_mode_at state path)
-  change-viewed state (calls.Read path offset len) no_store = refl
-  change-viewed state (calls.ReadNext cursor len) no_store = refl
-  change-viewed state (calls.Stat path) no_store = refl
-  change-viewed state (calls.List path size) no_store = refl
+  change-viewed state (calls.Read path offset len) served no_store = refl
+  change-viewed state (calls.ReadNext cursor len) served no_store = refl
+  change-viewed state (calls.Stat path) served no_store = refl
+  change-viewed state (calls.List path size) served no_store = refl
+  change-viewed state (calls.Allow path) served no_store = absurd (cc)
+  change-viewed state (calls.Disallow path) served no_store = absurd (cc)
+  change-viewed state (calls.Snap path name) served no_store = absurd (cc)
+  change-viewed state (calls.SnapDel path name) served no_store = absurd (cc)
+  change-viewed state (calls.SnapRen path old new) served no_store = absurd (cc)
+  change-viewed state (calls.ListNext cursor size) served no_store = absurd (cc)
+  change-viewed state (calls.Snaps path) served no_store = absurd (cc)
+  change-viewed state calls.Dirs served no_store = absurd (cc)
+  change-viewed state (calls.Report path from to size) served no_store = absurd (cc)
+  change-viewed state (calls.ReportNext cursor size) served no_store = absurd (cc)
 
-  -- every call, where an append reads as one
+  -- every call that is served, where an append reads as one
   module _ (longer : (file : A) (bytes : List ℕ) → read (fa.append file bytes) ≡ fb.append (read file) bytes) where
     if_appended-viewed : (state : State A) (bytes : List ℕ) (at : Asked (Names × Node A × A)) →
         if_asked (appended fb (viewed read state) bytes) (viewed read state) (mapped (viewed_file read) at) ≡ viewed read (if_asked (appended fa state bytes) state at)
@@ -171,14 +183,24 @@ module _ {A B : Type 0} (read : A → B) (fa : Files A) (fb : Files B) (empty : 
         ap (with_file (viewed read state) at.0 (viewed_node read at.1)) (sym (longer at.2 bytes)) ∙ with_file-viewed read state at.0 at.1 (fa.append at.2 bytes)
     if_appended-viewed state bytes (Err why) = refl
 
-    pub every_change-viewed : (state : State A) (call : Call) → change fb (viewed read state) call ≡ viewed read (change fa state call)
-    every_change-viewed state (calls.Mkdir path) = change-viewed state (calls.Mkdir path) refl
-    every_change-viewed state (calls.Create path over) = change-viewed state (calls.Create path over) refl
-    every_change-viewed state (calls.Append path bytes) = ap (if_asked (appended fb (viewed read state) bytes) (viewed read state)) (append_at-viewed read state path) ∙ if_appended-viewed state bytes (append_at state path)
-    every_change-viewed state (calls.Delete path recursive) = change-viewed state (calls.Delete path recursive) refl
-    every_change-viewed state (calls.Rename old new) = change-viewed state (calls.Rename old new) refl
-    every_change-viewed state (calls.SetMode path mode) = change-viewed state (calls.SetMode path mode) refl
-    every_change-viewed state (calls.Read path offset len) = refl
-    every_change-viewed state (calls.ReadNext cursor len) = refl
-    every_change-viewed state (calls.Stat path) = refl
-    every_change-viewed state (calls.List path size) = refl
+    pub every_change-viewed : (state : State A) (call : Call) → is_served call ≡ true → change fb (viewed read state) call ≡ viewed read (change fa state call)
+    every_change-viewed state (calls.Mkdir path) served = change-viewed state (calls.Mkdir path) refl refl
+    every_change-viewed state (calls.Create path over) served = change-viewed state (calls.Create path over) refl refl
+    every_change-viewed state (calls.Append path bytes) served = ap (if_asked (appended fb (viewed read state) bytes) (viewed read state)) (append_at-viewed read state path) ∙ if_appended-viewed state bytes (append_at state path)
+    every_change-viewed state (calls.Delete path recursive) served = change-viewed state (calls.Delete path recursive) refl refl
+    every_change-viewed state (calls.Rename old new) served = change-viewed state (calls.Rename old new) refl refl
+    every_change-viewed state (calls.SetMode path mode) served = change-viewed state (calls.SetMode path mode) refl refl
+    every_change-viewed state (calls.Read path offset len) served = refl
+    every_change-viewed state (calls.ReadNext cursor len) served = refl
+    every_change-viewed state (calls.Stat path) served = refl
+    every_change-viewed state (calls.List path size) served = refl
+    every_change-viewed state (calls.Allow path) served = absurd (cc)
+    every_change-viewed state (calls.Disallow path) served = absurd (cc)
+    every_change-viewed state (calls.Snap path name) served = absurd (cc)
+    every_change-viewed state (calls.SnapDel path name) served = absurd (cc)
+    every_change-viewed state (calls.SnapRen path old new) served = absurd (cc)
+    every_change-viewed state (calls.ListNext cursor size) served = absurd (cc)
+    every_change-viewed state (calls.Snaps path) served = absurd (cc)
+    every_change-viewed state calls.Dirs served = absurd (cc)
+    every_change-viewed state (calls.Report path from to size) served = absurd (cc)
+    every_change-viewed state (calls.ReportNext cursor size) served = absurd (cc)

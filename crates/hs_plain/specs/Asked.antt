@@ -1,6 +1,6 @@
 -- A call is answered by tests, one after another: the first that refuses is the answer.
-use Rattle.std.specs.Prelude.{Bool, true, false, nat_lt, if◌then◌else◌, Result, Ok, Err}
-use Rattle.hs_types.specs.declared.call.Refusal.{Refusal}
+use Rattle.std.specs.Prelude.{Bool, nat_lt, if◌then◌else◌, Option, Some, None, Result, Ok, Err}
+use Rattle.hs_types.specs.declared.refusal.Refusal.{Refusal}
 use Rattle.hs_types.specs.Refusals.{number_of}
 
 -- what a test gives, or why it refuses
@@ -27,3 +27,8 @@ both (Ok x) (Ok y) = Ok (x, y)
 both (Ok x) (Err why) = Err why
 both (Err why) (Ok y) = Err why
 both (Err a) (Err b) = Err (first_of a b)
+
+-- what a test gives, if it doesn't refuse
+abbrev pub some_asked : {X : Type 0} → Asked X → Option X
+some_asked (Ok x) = Some x
+some_asked (Err why) = None

@@ -1,22 +1,26 @@
 -- What accepted calls change.
-use Rattle.std.specs.Prelude.{ℕ, ◌+◌, Bool, true, false, not, ◌&&◌, bytes_eq, if◌then◌else◌, List, [], ◌∷◌, ◌++◌, map, length, drop, Option, Some, None, Ok, Err, is_some}
-use Rattle.std.specs.List.{filter, starts_with}
+use Rattle.std.specs.Prelude.{ℕ, ◌+◌, Bool, true, false, not, ◌&&◌, ◌==◌, if◌then◌else◌, List, [], ◌∷◌, ◌++◌, map, length, drop, Option, Some, None, Ok, Err, is_some}
+use Rattle.std.specs.List.{filter}
 use Rattle.std.specs.FinMap.Entries.{put}
 use Rattle.hs_types.specs.Names.{Names}
 use Rattle.hs_types.specs.declared.ids.InodeId.{InodeId}
+use Rattle.hs_types.specs.declared.ids.SnapId.{SnapId}
 use Rattle.hs_types.specs.declared.call.Call.{Call}
 use Rattle.hs_types.specs.declared.call.Call.TheVariants as calls
-use Rattle.hs_types.specs.declared.call.EntryKind.{EntryKind}
-use Rattle.hs_types.specs.declared.call.EntryKind.TheVariants.{Accepted, Faulted}
-use Rattle.hs_types.specs.declared.call.Entry.{Entry}
+use Rattle.hs_types.specs.declared.journal.EntryKind.{EntryKind}
+use Rattle.hs_types.specs.declared.journal.EntryKind.TheVariants.{Accepted, Faulted}
+use Rattle.hs_types.specs.declared.journal.Entry.{Entry}
 use Rattle.hs_plain.specs.declared.state.Node.{Node}
 use Rattle.hs_plain.specs.declared.state.Body.TheVariants.{File}
+use Rattle.hs_plain.specs.declared.state.Member.{Member}
 use Rattle.hs_plain.specs.declared.state.State.{State}
 use Rattle.hs_plain.specs.Asked.{Asked}
 use Rattle.hs_plain.specs.Files.{Files}
-use Rattle.hs_plain.specs.Tree.{Tree, path_cmp, parent_of, same_path}
-use Rattle.hs_plain.specs.State.{new_dir, place_of}
-use Rattle.hs_plain.specs.Answer.{mkdir_at, create_at, delete_at, rename_at, set_mode_at, append_at, is_modifying}
+use Rattle.hs_plain.specs.Tree.{Tree, path_cmp, parent_of, same_path, is_under, subtree, same_inode, place_of}
+use Rattle.hs_plain.specs.State.{new_dir, is_snapshottable}
+use Rattle.hs_plain.specs.Modifying.{mkdir_at, create_at, delete_at, rename_at, set_mode_at, append_at}
+use Rattle.hs_plain.specs.Snapshotting.{allow_at, disallow_at, snap_at, snap_del_at, snap_ren_at}
+use Rattle.hs_plain.specs.Answer.{is_modifying}
 
 -- ---- trees
 
@@ -33,10 +37,6 @@ remode path mode tick place = if same_path path place.0 then (place.0, record pl
 
 abbrev pub moded : {B : Type 0} → Tree B → Names → ℕ → ℕ → Tree B
 moded tree path mode tick = map (remode path mode tick) tree
-
--- whether a place is at a path or below it
-abbrev pub is_under : {B : Type 0} → Names → Names × Node B → Bool
-is_under path place = starts_with bytes_eq place.0 path
 
 -- the tree without what is at a path or below it
 abbrev pub without : {B : Type 0} → Tree B → Names → Tree B
@@ -117,6 +117,36 @@ renamed state paths = record state {
 abbrev pub with_mode : {B : Type 0} → State B → ℕ → Names → State B
 with_mode state mode path = record state { tree = moded state.tree path mode (state.tick + 1) }
 
+-- a directory in which snapshots may be made; where it is one already nothing is added
+abbrev pub allowed : {B : Type 0} → State B → InodeId → State B
+allowed state id = if is_snapshottable state id then state else record state { snapshottable = state.snapshottable ++ id ∷ [] }
+
+-- a directory less in which snapshots may be made
+abbrev pub disallowed : {B : Type 0} → State B → InodeId → State B
+disallowed state id = record state { snapshottable = filter (λ other. not (same_inode other id)) state.snapshottable }
+
+-- a snapshot of a directory at a path: a read-only point-in-time copy of its subtree (HDFS Snapshots guide, "Overview"), which the plain machine copies whole
+abbrev pub new_member : {B : Type 0} → State B → List ℕ → Names × Node B → Member B
+new_member state name at = record { snapshot = record { 0 = state.next_snapshot }; directory = at.1.id; name = name; tick = state.tick + 1; tree = subtree state.tree at.0 }
+
+-- one snapshot more
+abbrev pub snapped : {B : Type 0} → State B → List ℕ → Names × Node B → State B
+snapped state name at = record state { members = state.members ++ new_member state name at ∷ []; next_snapshot = state.next_snapshot + 1 }
+
+abbrev pub is_snapshot : {B : Type 0} → SnapId → Member B → Bool
+is_snapshot id member = member.snapshot.0 == id.0
+
+-- one snapshot less
+abbrev pub unsnapped : {B : Type 0} → State B → SnapId → State B
+unsnapped state id = record state { members = filter (λ member. not (is_snapshot id member)) state.members }
+
+abbrev pub rename_member : {B : Type 0} → SnapId → List ℕ → Member B → Member B
+rename_member id name member = if is_snapshot id member then record member { name = name } else member
+
+-- a snapshot with another name
+abbrev pub resnapped : {B : Type 0} → State B → List ℕ → SnapId → State B
+resnapped state name id = record state { members = map (rename_member id name) state.members }
+
 -- a change is made where it isn't refused
 abbrev pub if_asked : {X : Type 0} {B : Type 0} → (X → State B) → State B → Asked X → State B
 if_asked change state (Ok x) = change x
@@ -130,10 +160,20 @@ change files state (calls.Append path bytes) = if_asked (appended files state by
 change files state (calls.Delete path recursive) = if_asked (removed state) state (delete_at state path recursive)
 change files state (calls.Rename old new) = if_asked (renamed state) state (rename_at state old new)
 change files state (calls.SetMode path mode) = if_asked (with_mode state mode) state (set_mode_at state path)
+change files state (calls.Allow path) = if_asked (allowed state) state (allow_at state path)
+change files state (calls.Disallow path) = if_asked (disallowed state) state (disallow_at state path)
+change files state (calls.Snap path name) = if_asked (snapped state name) state (snap_at state path name)
+change files state (calls.SnapDel path name) = if_asked (unsnapped state) state (snap_del_at state path name)
+change files state (calls.SnapRen path old new) = if_asked (resnapped state new) state (snap_ren_at state path old new)
 change files state (calls.Read path offset len) = state
 change files state (calls.ReadNext cursor len) = state
 change files state (calls.Stat path) = state
 change files state (calls.List path size) = state
+change files state (calls.ListNext cursor size) = state
+change files state (calls.Snaps path) = state
+change files state calls.Dirs = state
+change files state (calls.Report path from to size) = state
+change files state (calls.ReportNext cursor size) = state
 
 -- ---- entries
 

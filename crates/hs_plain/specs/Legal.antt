@@ -1,16 +1,14 @@
 -- Which answers are right for a call, at a place of a namenode's one history.
-use Rattle.std.specs.Prelude.{◌≡◌, ℕ, ◌+◌, ◌-◌, ◌^◌, ◌≤◌, Bool, true, false, ◌&&◌, ◌||◌, ◌==◌, nat_le, nat_lt, not, if◌then◌else◌, List, [], ◌∷◌, length, take, slice_get, Option, Some, None}
+use Rattle.std.specs.Prelude.{◌≡◌, ℕ, ◌+◌, ◌-◌, ◌^◌, ◌≤◌, Bool, true, false, ◌&&◌, ◌||◌, ◌==◌, nat_le, nat_lt, if◌then◌else◌, List, [], ◌∷◌, length, take, slice_get, Option, Some, None}
 use Rattle.std.specs.List.{filter, filter_map, AllByRecursion}
 use Rattle.hs_types.specs.declared.ids.CallerId.{CallerId}
 use Rattle.hs_types.specs.declared.call.Call.{Call}
-use Rattle.hs_types.specs.declared.call.Reply.{Reply}
-use Rattle.hs_types.specs.declared.call.Reply.TheVariants.{Made, Done, Bytes, Stat, Page, Refused, NoMemory}
-use Rattle.hs_types.specs.declared.call.EntryKind.{EntryKind}
-use Rattle.hs_types.specs.declared.call.EntryKind.TheVariants.{Accepted, Faulted}
-use Rattle.hs_types.specs.declared.call.Entry.{Entry}
-use Rattle.hs_types.specs.declared.call.Answered.{Answered}
-use Rattle.hs_types.specs.Refusals.{number_of}
-use Rattle.hs_plain.specs.Answer.{answer, claimed, is_modifying, is_ok_reply}
+use Rattle.hs_types.specs.declared.reply.Reply.{Reply}
+use Rattle.hs_types.specs.declared.journal.EntryKind.{EntryKind}
+use Rattle.hs_types.specs.declared.journal.EntryKind.TheVariants.{Accepted, Faulted}
+use Rattle.hs_types.specs.declared.journal.Entry.{Entry}
+use Rattle.hs_types.specs.declared.reply.Answered.{Answered}
+use Rattle.hs_plain.specs.Answer.{answer, claimed, is_modifying, is_exclusive, is_ok_reply, is_plain_reply, is_store_fault, is_journal_full}
 use Rattle.hs_plain.specs.Replay.{plain_after}
 
 -- a call with its number among its caller's calls, and what was answered
@@ -18,26 +16,6 @@ pub record Said : Type 0 where
   pub seq : ℕ
   pub call : Call
   pub told : Answered
-
--- whether a reply says that the store failed
-abbrev pub is_store_fault : Reply → Bool
-is_store_fault (Made id) = false
-is_store_fault Done = false
-is_store_fault (Bytes bytes next) = false
-is_store_fault (Stat id is_dir mode stamp size) = false
-is_store_fault (Page items next) = false
-is_store_fault (Refused why) = number_of why == 23
-is_store_fault NoMemory = false
-
--- a reply of the plain machine; the others change nothing but the tick
-abbrev pub is_plain_reply : Reply → Bool
-is_plain_reply (Made id) = true
-is_plain_reply Done = true
-is_plain_reply (Bytes bytes next) = true
-is_plain_reply (Stat id is_dir mode stamp size) = true
-is_plain_reply (Page items next) = true
-is_plain_reply (Refused why) = not (number_of why == 23)
-is_plain_reply NoMemory = false
 
 -- whether the call left an entry in the journal: a change that was accepted, or a fault of the store
 abbrev pub leaves_entry : Call → Reply → Bool
@@ -54,8 +32,14 @@ entry_of caller seq call reply = record { caller = caller; seq = seq; kind = kin
 abbrev pub reach_of : Call → Answered → ℕ
 reach_of call told = told.position + (if leaves_entry call told.reply then 1 else 0)
 
--- one call is answered as the plain machine does at its place in the journal, over a store that tells its bytes or doesn't
-pub record IsLegalCall (tells : Bool) (journal : List Entry) (caller : CallerId) (seq : ℕ) (call : Call) (told : Answered) : Type 0 where
+-- a call is refused for want of room in the journal alone
+pub record IsFullAt (limit : ℕ) (journal : List Entry) (call : Call) (position : ℕ) : Type 0 where
+  pub exclusive : is_exclusive call ≡ true
+  pub would_do : is_ok_reply (answer (plain_after (take position journal)) call) ≡ true
+  pub at_limit : position ≡ limit
+
+-- one call is answered as the plain machine does at its place in the journal, over a store that tells its bytes or doesn't, with a limit of entries
+pub record IsLegalCall (tells : Bool) (limit : ℕ) (journal : List Entry) (caller : CallerId) (seq : ℕ) (call : Call) (told : Answered) : Type 0 where
   -- its place is in the journal
   pub within : told.position ≤ length journal
   -- the reply is the plain machine's
@@ -65,6 +49,8 @@ pub record IsLegalCall (tells : Bool) (journal : List Entry) (caller : CallerId)
   -- the call is handed back exactly where it left no entry
   pub kept : leaves_entry call told.reply ≡ true → told.back ≡ None
   pub handed_back : leaves_entry call told.reply ≡ false → told.back ≡ Some call
+  -- the journal is full only for an exclusive call that would be done, and where it has as many entries as it may have
+  pub full : is_journal_full told.reply ≡ true → IsFullAt limit journal call told.position
 
 abbrev pub is_caller : CallerId → Entry → Bool
 is_caller caller entry = entry.caller.0 == caller.0
@@ -84,8 +70,8 @@ places_rise reach [] = true
 places_rise reach (said ∷ more) = nat_le reach said.told.position && places_rise (reach_of said.call said.told) more
 
 -- the calls of one caller are answered legally in a namenode's journal, and the caller's entries are those that they left, in order
-pub record AreLegalCalls (tells : Bool) (journal : List Entry) (caller : CallerId) (calls : List Said) : Type 0 where
-  pub each : AllByRecursion (λ said. IsLegalCall tells journal caller said.seq said.call said.told) calls
+pub record AreLegalCalls (tells : Bool) (limit : ℕ) (journal : List Entry) (caller : CallerId) (calls : List Said) : Type 0 where
+  pub each : AllByRecursion (λ said. IsLegalCall tells limit journal caller said.seq said.call said.told) calls
   pub numbers : numbers_rise 0 calls ≡ true
   pub places : places_rise 0 calls ≡ true
   pub entries : filter (is_caller caller) journal ≡ filter_map (entry_left caller) calls

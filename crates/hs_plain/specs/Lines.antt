@@ -1,11 +1,9 @@
 -- The printed tree, and how much a state holds.
-use Rattle.std.specs.Prelude.{◌≡◌, ℕ, ◌-◌, List, map, length, slice_get}
+use Rattle.std.specs.Prelude.{ℕ, ◌-◌, List, map, length, slice_get}
 use Rattle.hs_types.specs.Names.{Names}
-use Rattle.hs_types.specs.declared.call.TreeLine.{TreeLine}
-use Rattle.hs_types.specs.declared.call.Counts.{Counts}
+use Rattle.hs_types.specs.declared.shown.TreeLine.{TreeLine}
+use Rattle.hs_types.specs.declared.shown.Counts.{Counts}
 use Rattle.hs_plain.specs.declared.state.Node.{Node}
-use Rattle.hs_plain.specs.declared.state.Body.{Body}
-use Rattle.hs_plain.specs.declared.state.Body.TheVariants.{File, Dir}
 use Rattle.hs_plain.specs.declared.state.State.{State}
 use Rattle.hs_plain.specs.Tree.{Tree, is_dir, size_of}
 
@@ -28,6 +26,6 @@ lines_of bytes tree = map (tree_line bytes tree) tree
 abbrev pub tree_lines : State (List ℕ) → List TreeLine
 tree_lines state = lines_of length state.tree
 
--- rows are the live nodes, and list entries all but the root; the blocks are those of a store
-abbrev pub counts_of : {B : Type 0} → State B → ℕ → Counts
-counts_of state blocks = record { rows = length state.tree; records = 0; list_entries = length state.tree - 1; snapshots = length state.members; blocks = blocks }
+-- while no records are kept: rows are the live nodes, and list entries all but the root; the blocks are those of a store
+abbrev pub live_counts : {B : Type 0} → State B → ℕ → Counts
+live_counts state blocks = record { rows = length state.tree; records = 0; list_entries = length state.tree - 1; snapshots = length state.members; blocks = blocks }

@@ -1,9 +1,9 @@
 -- The state that a journal stands for, and which journals a namenode may have.
-use Rattle.std.specs.Prelude.{ℕ, Bool, true, false, ◌&&◌, List, [], ◌∷◌}
+use Rattle.std.specs.Prelude.{ℕ, Bool, true, ◌&&◌, List, [], ◌∷◌}
 use Rattle.hs_types.specs.declared.call.Call.{Call}
-use Rattle.hs_types.specs.declared.call.EntryKind.{EntryKind}
-use Rattle.hs_types.specs.declared.call.EntryKind.TheVariants.{Accepted, Faulted}
-use Rattle.hs_types.specs.declared.call.Entry.{Entry}
+use Rattle.hs_types.specs.declared.journal.EntryKind.{EntryKind}
+use Rattle.hs_types.specs.declared.journal.EntryKind.TheVariants.{Accepted, Faulted}
+use Rattle.hs_types.specs.declared.journal.Entry.{Entry}
 use Rattle.hs_plain.specs.declared.state.State.{State}
 use Rattle.hs_plain.specs.Files.{Files, plain_files}
 use Rattle.hs_plain.specs.State.{start}

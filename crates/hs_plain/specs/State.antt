@@ -1,6 +1,6 @@
 -- The plain state, and where a path leads in it.
-use Rattle.std.specs.Prelude.{◌≡◌, ℕ, ◌+◌, Bool, true, false, ◌&&◌, ◌==◌, nat_le, bytes_eq, if◌then◌else◌, List, [], ◌∷◌, ◌++◌, map, length, count_by, Option, Some, None, Ok, Err}
-use Rattle.std.specs.List.{list_any, filter}
+use Rattle.std.specs.Prelude.{ℕ, Bool, true, ◌&&◌, ◌||◌, ◌==◌, bytes_eq, if◌then◌else◌, List, [], ◌∷◌, count_by, Option, Some, None, Ok, Err}
+use Rattle.std.specs.List.{list_any}
 use Rattle.std.specs.Ordering.{nat_cmp, is_gt}
 use Rattle.std.specs.Cmp.Lexicographic.{slice_cmp}
 use Rattle.hs_types.specs.Names.{Names}
@@ -9,16 +9,16 @@ use Rattle.hs_types.specs.declared.ids.SnapId.{SnapId}
 use Rattle.hs_types.specs.declared.path.Path.{Path}
 use Rattle.hs_types.specs.declared.path.PathTail.{PathTail}
 use Rattle.hs_types.specs.declared.path.PathTail.TheVariants.{Plain, SnapshotList, Frozen}
-use Rattle.hs_types.specs.declared.call.Refusal.TheVariants.{NotFound, NotDir, Reserved, ReadOnly}
-use Rattle.hs_types.specs.declared.call.Item.{Item}
+use Rattle.hs_types.specs.declared.refusal.Refusal.TheVariants.{NotFound, NotDir, Reserved, ReadOnly, NoSnapshot}
+use Rattle.hs_types.specs.declared.reply.Item.{Item}
 use Rattle.hs_types.specs.declared.call.Place.{Place}
 use Rattle.hs_types.specs.declared.call.Place.TheVariants as places
 use Rattle.hs_plain.specs.declared.state.Node.{Node}
-use Rattle.hs_plain.specs.declared.state.Body.TheVariants.{File, Dir}
+use Rattle.hs_plain.specs.declared.state.Body.TheVariants.{Dir}
 use Rattle.hs_plain.specs.declared.state.Member.{Member}
 use Rattle.hs_plain.specs.declared.state.State.{State}
 use Rattle.hs_plain.specs.Asked.{Asked, ◌>>=◌}
-use Rattle.hs_plain.specs.Tree.{Tree, node_at, walk, listing, is_dir}
+use Rattle.hs_plain.specs.Tree.{Tree, node_at, walk, listing, is_dir, is_under, is_above, same_inode, place_of}
 
 -- a new directory has mode 755 octal and the tick of its making
 abbrev pub new_dir : {B : Type 0} → ℕ → ℕ → Node B
@@ -28,9 +28,6 @@ new_dir id tick = record { id = record { 0 = id }; mode = 493; stamp = tick; bod
 abbrev pub start : {B : Type 0} → State B
 start = record { tree = ([], new_dir 1 0) ∷ []; snapshottable = []; members = []; next_inode = 2; next_snapshot = 1; tick = 0 }
 
-abbrev pub same_inode : InodeId → InodeId → Bool
-same_inode a b = a.0 == b.0
-
 abbrev pub is_snapshottable : {B : Type 0} → State B → InodeId → Bool
 is_snapshottable state id = list_any (same_inode id) state.snapshottable
 
@@ -39,16 +36,20 @@ abbrev pub if_snapshottable : {B : Type 0} → State B → Option (Node B) → A
 if_snapshottable state None = Err NotFound
 if_snapshottable state (Some node) = if is_snapshottable state node.id then Ok node.id else Err NotFound
 
--- `/d/.snapshot` is found only where d is snapshottable (HDFS Snapshots guide, "Snapshot Paths")
+-- `/d/.snapshot` (HDFS Snapshots guide, "Snapshot Paths") is found only where d is snapshottable
 abbrev pub snapshot_root : {B : Type 0} → State B → Names → Asked InodeId
 snapshot_root state base = if_snapshottable state (node_at state.tree base)
+
+-- whether a snapshot is of this directory and has this name
+abbrev pub is_named : {B : Type 0} → InodeId → List ℕ → Member B → Bool
+is_named dir name member = same_inode member.directory dir && bytes_eq member.name name
 
 -- the snapshot of a directory that has this name
 abbrev pub member_named : {B : Type 0} → List (Member B) → InodeId → List ℕ → Asked (Member B)
 member_named [] dir name = Err NotFound
-member_named (m ∷ ms) dir name = if same_inode m.directory dir && bytes_eq m.name name then Ok m else member_named ms dir name
+member_named (m ∷ ms) dir name = if is_named dir name m then Ok m else member_named ms dir name
 
--- the snapshot of a directory that has this id
+-- the snapshot that has this id
 abbrev pub member_with : {B : Type 0} → List (Member B) → SnapId → Asked (Member B)
 member_with [] snapshot = Err NotFound
 member_with (m ∷ ms) snapshot = if m.snapshot.0 == snapshot.0 then Ok m else member_with ms snapshot
@@ -71,11 +72,6 @@ resolve_tail state base (Frozen snapshot rest) = do
 abbrev pub resolve : {B : Type 0} → State B → Path → Asked Place
 resolve state path = resolve_tail state path.base path.tail
 
--- the place of the node with this id
-abbrev pub place_of : {B : Type 0} → Tree B → InodeId → Option (Names × Node B)
-place_of [] id = None
-place_of (place ∷ places) id = if same_inode place.1.id id then Some place else place_of places id
-
 abbrev pub items_of : {B : Type 0} → Tree B → Option (Names × Node B) → Asked (List Item)
 items_of tree None = Err NotFound
 items_of tree (Some place) = if is_dir place.1 then Ok (listing tree place.0) else Err NotDir
@@ -87,6 +83,35 @@ is_lesser name other = is_gt (slice_cmp nat_cmp name other.name)
 abbrev pub with_item : Item → List Item → List Item
 with_item item [] = item ∷ []
 with_item item (other ∷ items) = if is_lesser item.name other then other ∷ with_item item items else item ∷ other ∷ items
+
+-- whether a directory has a snapshot of this name
+abbrev pub has_snapshot_named : {B : Type 0} → State B → InodeId → List ℕ → Bool
+has_snapshot_named state dir name = list_any (is_named dir name) state.members
+
+-- the id of a directory's snapshot of this name
+abbrev pub snapshot_named : {B : Type 0} → List (Member B) → InodeId → List ℕ → Asked SnapId
+snapshot_named [] dir name = Err NoSnapshot
+snapshot_named (m ∷ ms) dir name = if is_named dir name m then Ok m.snapshot else snapshot_named ms dir name
+
+-- whether a directory has snapshots
+abbrev pub has_snapshots : {B : Type 0} → State B → InodeId → Bool
+has_snapshots state dir = list_any (λ member. same_inode member.directory dir) state.members
+
+-- whether a directory with snapshots stands at a path or below it
+abbrev pub holds_snapshots : {B : Type 0} → State B → Names → Bool
+holds_snapshots state path = list_any (λ place. has_snapshots state place.1.id && is_under path place) state.tree
+
+-- whether a snapshottable directory stands at a path or below it
+abbrev pub holds_snapshottable : {B : Type 0} → State B → Names → Bool
+holds_snapshottable state path = list_any (λ place. is_snapshottable state place.1.id && is_under path place) state.tree
+
+-- whether a path lies below a snapshottable directory
+abbrev pub is_in_snapshottable : {B : Type 0} → State B → Names → Bool
+is_in_snapshottable state path = list_any (λ place. is_snapshottable state place.1.id && is_above place.0 path) state.tree
+
+-- whether a snapshottable directory stands above a path or below it
+abbrev pub meets_snapshottable : {B : Type 0} → State B → Names → Bool
+meets_snapshottable state path = list_any (λ place. is_snapshottable state place.1.id && (is_above place.0 path || is_above path place.0)) state.tree
 
 -- how many snapshots a directory has
 abbrev pub snapshots_of : {B : Type 0} → List (Member B) → InodeId → ℕ

@@ -1,13 +1,16 @@
 -- A tree is the list of its places, by rising paths: a finite map from paths to nodes.
-use Rattle.std.specs.Prelude.{◌≡◌, ℕ, ◌+◌, ◌-◌, Bool, true, false, ◌&&◌, ◌==◌, nat_lt, bytes_eq, if◌then◌else◌, List, [], ◌∷◌, ◌++◌, map, length, take, drop, Option, Some, None, Ok, Err, is_some}
-use Rattle.std.specs.List.{list_all, filter_map, starts_with}
+use Rattle.std.specs.Prelude.{ℕ, ◌-◌, Bool, true, false, ◌&&◌, ◌==◌, nat_lt, bytes_eq, if◌then◌else◌, List, [], ◌∷◌, ◌++◌, map, length, take, drop, slice_get, Option, Some, None, Ok, Err}
+use Rattle.std.specs.List.{filter, filter_map, starts_with}
 use Rattle.std.specs.Ordering.{nat_cmp, is_gt, is_eq}
 use Rattle.std.specs.declared.cmp.Ordering.{Ordering}
 use Rattle.std.specs.Cmp.Lexicographic.{slice_cmp, pointwise}
 use Rattle.std.specs.FinMap.Entries.{find}
+use Rattle.std.specs.Option.{option_map}
 use Rattle.hs_types.specs.Names.{Names}
-use Rattle.hs_types.specs.declared.call.Refusal.TheVariants.{NotFound, NotDir}
-use Rattle.hs_types.specs.declared.call.Item.{Item}
+use Rattle.hs_types.specs.declared.ids.InodeId.{InodeId}
+use Rattle.hs_types.specs.declared.name.Spot.{Spot}
+use Rattle.hs_types.specs.declared.refusal.Refusal.TheVariants.{NotFound, NotDir}
+use Rattle.hs_types.specs.declared.reply.Item.{Item}
 use Rattle.hs_plain.specs.declared.state.Node.{Node}
 use Rattle.hs_plain.specs.declared.state.Body.{Body}
 use Rattle.hs_plain.specs.declared.state.Body.TheVariants.{File, Dir}
@@ -63,7 +66,7 @@ found (Some node) = Ok node
 abbrev pub walk : {B : Type 0} → Tree B → Names → Asked (Node B)
 walk tree path = walks_above tree path >>= λ _. found (node_at tree path)
 
--- the directory above a path
+-- the directory above a path; of the root it is the root itself
 abbrev pub parent_of : Names → Names
 parent_of path = take (length path - 1) path
 
@@ -110,3 +113,28 @@ is_above above path = starts_with bytes_eq path above && nat_lt (length above) (
 
 abbrev pub same_path : Names → Names → Bool
 same_path = pointwise bytes_eq
+
+-- whether a place is at a path or below it
+abbrev pub is_under : {B : Type 0} → Names → Names × Node B → Bool
+is_under path place = starts_with bytes_eq place.0 path
+
+-- a directory's whole subtree, with paths that go from the directory
+abbrev pub subtree : {B : Type 0} → Tree B → Names → Tree B
+subtree tree path = map (λ place. (drop (length path) place.0, place.1)) (filter (is_under path) tree)
+
+-- where a node stands: under which directory, and by which name; the root stands nowhere
+abbrev pub spot_under : {B : Type 0} → Option (Node B) → Names → Option Spot
+spot_under above [] = None
+spot_under None (name ∷ names) = None
+spot_under (Some dir) (name ∷ names) = option_map (λ own. record { parent = dir.id; name = own }) (slice_get (name ∷ names) (length names))
+
+abbrev pub spot_at : {B : Type 0} → Tree B → Names → Option Spot
+spot_at tree path = spot_under (node_at tree (parent_of path)) path
+
+abbrev pub same_inode : InodeId → InodeId → Bool
+same_inode a b = a.0 == b.0
+
+-- the place of the node with this id
+abbrev pub place_of : {B : Type 0} → Tree B → InodeId → Option (Names × Node B)
+place_of [] id = None
+place_of (place ∷ places) id = if same_inode place.1.id id then Some place else place_of places id

@@ -1,14 +1,14 @@
 -- What is true of each plain state that a journal stands for.
-use Rattle.std.specs.Prelude.{◌≡◌, ℕ, ◌<◌, Bool, true, false, not, ◌&&◌, ◌||◌, ◌==◌, nat_lt, nat_le, bytes_eq, List, [], ◌∷◌, ◌++◌, map, length, count_by, Option, Some, None}
-use Rattle.std.specs.List.{list_any, list_all, filter_map, flat_map, starts_with}
+use Rattle.std.specs.Prelude.{◌≡◌, ℕ, ◌<◌, Bool, true, false, not, ◌&&◌, ◌||◌, ◌==◌, nat_lt, nat_le, bytes_eq, List, [], ◌∷◌, ◌++◌, map, Option, Some, None}
+use Rattle.std.specs.List.{Contains, list_any, list_all, filter_map, flat_map}
 use Rattle.std.specs.FinMap.Entries.{is_sorted}
 use Rattle.hs_types.specs.Names.{Names}
 use Rattle.hs_types.specs.declared.ids.InodeId.{InodeId}
 use Rattle.hs_plain.specs.declared.state.Node.{Node}
 use Rattle.hs_plain.specs.declared.state.Member.{Member}
 use Rattle.hs_plain.specs.declared.state.State.{State}
-use Rattle.hs_plain.specs.Tree.{Tree, path_cmp, node_at, is_dir, parent_of, is_root_path, is_above}
-use Rattle.hs_plain.specs.State.{same_inode, is_snapshottable, place_of, snapshots_of}
+use Rattle.hs_plain.specs.Tree.{Tree, path_cmp, node_at, is_dir, parent_of, is_root_path, is_above, same_inode, place_of}
+use Rattle.hs_plain.specs.State.{is_snapshottable, snapshots_of}
 
 -- ---- trees
 
@@ -144,10 +144,10 @@ pub record IsValid {B : Type 0} (state : State B) : Type 0 where
   -- and are at most 65,536 (HDFS Snapshots guide)
   pub at_most : list_all (λ member. nat_le (snapshots_of state.members member.directory) 65536) state.members ≡ true
 
--- ---- without snapshots
+-- ---- stamps
 
--- a valid state as long as no call makes a directory snapshottable
-pub record IsLive {B : Type 0} (state : State B) : Type 0 where
-  pub valid : IsValid state
-  pub none_snapshottable : state.snapshottable ≡ []
-  pub no_snapshots : state.members ≡ []
+-- what a stamp tells, in a valid state: nodes with one id and one stamp are the same, mode and bytes too, in whichever trees they stand
+pub record HasSteadyStamps {B : Type 0} (state : State B) : Type 0 where
+  pub same_node : (a b : Node B) → Contains (all_nodes state) a → Contains (all_nodes state) b → a.id ≡ b.id → a.stamp ≡ b.stamp → a ≡ b
+  -- and no stamp is above the tick
+  pub stamps_within : list_all (λ node. nat_le node.stamp state.tick) (all_nodes state) ≡ true

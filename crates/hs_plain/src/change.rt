@@ -4,15 +4,17 @@ ghost use Rattle.std.specs.List.{prefix_len, zip};
 ghost use Rattle.std.specs.FinMap.Entries.{put, is_sorted};
 ghost use Rattle.hs_types.specs.declared.call.Call.TheVariants as calls;
 ghost use Rattle.hs_plain.specs.Faults.{IsFaultOf};
-ghost use Rattle.hs_plain.specs.Tree.{path_cmp, parent_of as plain_parent_of, is_after, is_place_at as is_plain_place_at};
-ghost use Rattle.hs_plain.specs.State.{new_dir, place_of as plain_place_of};
+ghost use Rattle.hs_plain.specs.Tree as trees;
+ghost use Rattle.hs_plain.specs.State.{new_dir};
 ghost use Rattle.hs_plain.specs.Files.{plain_files};
 ghost use Rattle.hs_plain.specs.Answer.{asked, made_reply, is_modifying, uses_store};
-ghost use Rattle.hs_plain.specs.Change.{restamp as plain_restamp, stamped, remode as plain_remode, moded, is_under as is_plain_under, without, new_path as plain_new_path, at_new, repath, put_all as plain_put_all, moved, new_file, made_file, with_node, still_in as plain_still_in, removed, renamed, with_mode, change};
+ghost use Rattle.hs_plain.specs.Change;
 
 use crate::answer::{append_at, create_at, delete_at, mkdir_at, rename_at, set_mode_at};
 use crate::files::FileBody;
 use crate::resolve::AskFault;
+use crate::snapshot_change::{allow, disallow, snap, snap_del, snap_ren};
+use crate::snapshots::is_under;
 use crate::state::{Body, Bytes, Node, PlainState, State, Tree};
 use crate::tree::{compare_paths, place_of};
 use hs_types::{
@@ -22,15 +24,15 @@ use std::alloc::Global;
 use std::cmp::Ordering;
 
 /// The directory above a path.
-fn parent_of(path: &[Name]) -> &[Name]
-    ensures { result.now ≡ plain_parent_of path.now }
+pub fn parent_of(path: &[Name]) -> &[Name]
+    ensures { result.now ≡ trees.parent_of path.now }
 {
     &path[..path.len().saturating_sub(1)]
 }
 
 /// Gives the node a new stamp, where it stands at this path.
 fn restamp<B>(place: &mut (RelPath, Node<B>), path: &[Name], tick: u64)
-    ensures { place.new ≡ plain_restamp path.now tick place.old }
+    ensures { place.new ≡ Change.restamp path.now tick place.old }
 {
     if path == place.0.items() {
         place.1.stamp = tick;
@@ -38,7 +40,7 @@ fn restamp<B>(place: &mut (RelPath, Node<B>), path: &[Name], tick: u64)
 }
 
 fn restamp_all<B>(places: &mut Vec<(RelPath, Node<B>)>, path: &[Name], tick: u64)
-    ensures items { places.new.items ≡ stamped places.old.items path.now tick }
+    ensures items { places.new.items ≡ Change.stamped places.old.items path.now tick }
     ensures len { vec_len places.new ≡ vec_len places.old }
     ensures room { vec_capacity places.new ≡ vec_capacity places.old }
 {
@@ -49,7 +51,7 @@ fn restamp_all<B>(places: &mut Vec<(RelPath, Node<B>)>, path: &[Name], tick: u64
 
 /// Gives the node a mode and a new stamp, where it stands at this path.
 fn remode<B>(place: &mut (RelPath, Node<B>), path: &[Name], mode: Mode, tick: u64)
-    ensures { place.new ≡ plain_remode path.now mode tick place.old }
+    ensures { place.new ≡ Change.remode path.now mode tick place.old }
 {
     if path == place.0.items() {
         place.1.mode = mode;
@@ -58,7 +60,7 @@ fn remode<B>(place: &mut (RelPath, Node<B>), path: &[Name], mode: Mode, tick: u6
 }
 
 fn remode_all<B>(places: &mut Vec<(RelPath, Node<B>)>, path: &[Name], mode: Mode, tick: u64)
-    ensures { places.new.items ≡ moded places.old.items path.now mode tick }
+    ensures { places.new.items ≡ Change.moded places.old.items path.now mode tick }
 {
     for place in places.iter_mut() {
         remode(place, path, mode, tick);
@@ -67,8 +69,8 @@ fn remode_all<B>(places: &mut Vec<(RelPath, Node<B>)>, path: &[Name], mode: Mode
 
 /// How many places at the front stand before a path, by halves.
 fn rank_by_halves<B>(places: &[(RelPath, Node<B>)], path: &[Name]) -> usize
-    requires { is_sorted path_cmp places.now ≡ true }
-    ensures rank { result ≡ prefix_len (is_after path.now) places.now }
+    requires { is_sorted trees.path_cmp places.now ≡ true }
+    ensures rank { result ≡ prefix_len (trees.is_after path.now) places.now }
     ensures within { result ≤ length places.now }
 {
     places.partition_point(|place| compare_paths(path, place.0.items()) == Ordering::Greater)
@@ -76,8 +78,8 @@ fn rank_by_halves<B>(places: &[(RelPath, Node<B>)], path: &[Name]) -> usize
 
 /// Whether a path comes behind all places.
 fn comes_last<B>(places: &[(RelPath, Node<B>)], path: &[Name]) -> bool
-    requires { is_sorted path_cmp places.now ≡ true }
-    ensures { result ≡ true → length places.now ≡ prefix_len (is_after path.now) places.now }
+    requires { is_sorted trees.path_cmp places.now ≡ true }
+    ensures { result ≡ true → length places.now ≡ prefix_len (trees.is_after path.now) places.now }
 {
     match places.len().checked_sub(1) {
         Some(last) => compare_paths(path, places[last].0.items()) == Ordering::Greater,
@@ -87,8 +89,8 @@ fn comes_last<B>(places: &[(RelPath, Node<B>)], path: &[Name]) -> bool
 
 /// How many places at the front stand before a path: all of them, where places come in order.
 pub fn rank_of<B>(places: &[(RelPath, Node<B>)], path: &[Name]) -> usize
-    requires { is_sorted path_cmp places.now ≡ true }
-    ensures rank { result ≡ prefix_len (is_after path.now) places.now }
+    requires { is_sorted trees.path_cmp places.now ≡ true }
+    ensures rank { result ≡ prefix_len (trees.is_after path.now) places.now }
     ensures within { result ≤ length places.now }
 {
     if comes_last(places, path) {
@@ -100,7 +102,7 @@ pub fn rank_of<B>(places: &[(RelPath, Node<B>)], path: &[Name]) -> usize
 
 /// Whether the place with this number is at a path.
 fn is_place_at<B>(places: &[(RelPath, Node<B>)], rank: usize, path: &[Name]) -> bool
-    ensures { result ≡ is_plain_place_at path.now (slice_get places.now rank) }
+    ensures { result ≡ trees.is_place_at path.now (slice_get places.now rank) }
 {
     match places.get(rank) {
         Some(place) => compare_paths(path, place.0.items()) == Ordering::Equal,
@@ -111,8 +113,8 @@ fn is_place_at<B>(places: &[(RelPath, Node<B>)], rank: usize, path: &[Name]) -> 
 /// Puts a node at a path, in the place of one that is there. There is room for one more.
 fn put_place<B: Drop>(places: &mut Vec<(RelPath, Node<B>)>, path: List<Name>, node: Node<B>)
     requires room { vec_len places.old < vec_capacity places.old }
-    requires sorted { is_sorted path_cmp places.old.items ≡ true }
-    ensures items { places.new.items ≡ put path_cmp path node places.old.items }
+    requires sorted { is_sorted trees.path_cmp places.old.items ≡ true }
+    ensures items { places.new.items ≡ put trees.path_cmp path node places.old.items }
     ensures len { vec_len places.new ≤ vec_len places.old + 1 }
     ensures room { vec_capacity places.new ≡ vec_capacity places.old }
 {
@@ -131,8 +133,8 @@ fn grow<B: Drop>(
     node: Node<B>,
     tick: u64,
 ) -> Result<(), NoMemory>
-    requires { is_sorted path_cmp tree.old ≡ true }
-    ensures ok { OnOk result (tree.new ≡ put path_cmp path node (stamped tree.old (plain_parent_of path) tick)) }
+    requires { is_sorted trees.path_cmp tree.old ≡ true }
+    ensures ok { OnOk result (tree.new ≡ put trees.path_cmp path node (Change.stamped tree.old (trees.parent_of path) tick)) }
     ensures err { OnErr result (tree.new ≡ tree.old) }
 {
     let mut places = tree.take();
@@ -149,8 +151,8 @@ fn grow<B: Drop>(
 fn add_node<B: Drop>(state: &mut State<B>, path: List<Name>, node: Node<B>) -> Result<(), NoMemory>
     requires ticks { state.old.tick + 1 < 2 ^ 64 }
     requires inodes { state.old.next_inode + 1 < 2 ^ 64 }
-    requires sorted { is_sorted path_cmp state.old.tree ≡ true }
-    ensures ok { OnOk result (state.new ≡ with_node state.old path node) }
+    requires sorted { is_sorted trees.path_cmp state.old.tree ≡ true }
+    ensures ok { OnOk result (state.new ≡ Change.with_node state.old path node) }
     ensures err { OnErr result (state.new ≡ state.old) }
 {
     grow(&mut state.tree, path, node, state.tick + 1)?;
@@ -158,23 +160,16 @@ fn add_node<B: Drop>(state: &mut State<B>, path: List<Name>, node: Node<B>) -> R
     Ok(())
 }
 
-/// Whether a place is at a path or below it.
-fn is_under<B>(path: &[Name], place: &(RelPath, Node<B>)) -> bool
-    ensures { result ≡ is_plain_under path.now place.now }
-{
-    place.0.items().starts_with(path)
-}
-
 /// Takes out what is at a path or below it.
 fn cut<B: Drop>(places: &mut Vec<(RelPath, Node<B>)>, path: &[Name])
-    ensures { places.new.items ≡ without places.old.items path.now }
+    ensures { places.new.items ≡ Change.without places.old.items path.now }
 {
     places.retain(|place| !is_under(path, place));
 }
 
 /// The ids that are still in a tree.
 fn keep_ids<B>(ids: &mut Vec<InodeId>, tree: &[(RelPath, Node<B>)])
-    ensures { ids.new.items ≡ plain_still_in tree.now ids.old.items }
+    ensures { ids.new.items ≡ Change.still_in tree.now ids.old.items }
 {
     ids.retain(|id| place_of(tree, *id).is_some());
 }
@@ -182,7 +177,7 @@ fn keep_ids<B>(ids: &mut Vec<InodeId>, tree: &[(RelPath, Node<B>)])
 /// Removes what is at a path or below it.
 pub fn remove_node<B: Drop>(state: &mut State<B>, path: &[Name])
     requires ticks { state.old.tick + 1 < 2 ^ 64 }
-    ensures { state.new ≡ removed state.old path.now }
+    ensures { state.new ≡ Change.removed state.old path.now }
 {
     let mut places = state.tree.take();
     let mut ids = state.snapshottable.take();
@@ -196,7 +191,7 @@ pub fn remove_node<B: Drop>(state: &mut State<B>, path: &[Name])
 /// Gives the node at a path a mode.
 fn set_mode<B: Drop>(state: &mut State<B>, path: &[Name], mode: Mode)
     requires ticks { state.old.tick + 1 < 2 ^ 64 }
-    ensures { state.new ≡ with_mode state.old mode path.now }
+    ensures { state.new ≡ Change.with_mode state.old mode path.now }
 {
     let mut places = state.tree.take();
     remode_all(&mut places, path, mode, state.tick + 1);
@@ -210,7 +205,7 @@ fn new_path<B>(
     old: &[Name],
     new: &[Name],
 ) -> Result<Option<RelPath>, NoMemory>
-    ensures { IfOk result (λ path. path ≡ plain_new_path old.now new.now place.now) }
+    ensures { IfOk result (λ path. path ≡ Change.new_path old.now new.now place.now) }
 {
     if !is_under(old, place) {
         return Ok(None);
@@ -224,7 +219,7 @@ fn new_path<B>(
 }
 
 /// Copies names to the end of a path.
-fn push_names(path: &mut Vec<Name>, names: &[Name]) -> Result<(), NoMemory>
+pub fn push_names(path: &mut Vec<Name>, names: &[Name]) -> Result<(), NoMemory>
     ensures { OnOk result (path.new.items ≡ path.old.items ++ names.now) }
 {
     for name in names {
@@ -240,7 +235,7 @@ fn new_paths<B>(
     old: &[Name],
     new: &[Name],
 ) -> Result<Vec<Option<RelPath>>, NoMemory>
-    ensures { IfOk result (λ paths. paths.items ≡ map (plain_new_path old.now new.now) places.now) }
+    ensures { IfOk result (λ paths. paths.items ≡ map (Change.new_path old.now new.now) places.now) }
 {
     let mut paths = Vec::with_capacity(alloc, places.len())?;
     for place in places {
@@ -257,8 +252,8 @@ fn put_all<B: Drop>(
 )
     requires paths { length paths.items ≡ length places.items }
     requires room { vec_len sorted.old + vec_len places ≤ vec_capacity sorted.old }
-    requires sorted { is_sorted path_cmp sorted.old.items ≡ true }
-    ensures { sorted.new.items ≡ plain_put_all sorted.old.items (map (λ pair. at_new pair.0 pair.1) (zip places.items paths.items)) }
+    requires sorted { is_sorted trees.path_cmp sorted.old.items ≡ true }
+    ensures { sorted.new.items ≡ Change.put_all sorted.old.items (map (λ pair. Change.at_new pair.0 pair.1) (zip places.items paths.items)) }
 {
     for ((path, node), new_path) in places.into_iter().zip(paths) {
         put_place(sorted, new_path.unwrap_or(path), node);
@@ -274,7 +269,7 @@ fn move_node<B: Drop>(
     new: &[Name],
 ) -> Result<(), NoMemory>
     requires ticks { state.old.tick + 1 < 2 ^ 64 }
-    ensures ok { OnOk result (state.new ≡ renamed state.old (old.now, new.now)) }
+    ensures ok { OnOk result (state.new ≡ Change.renamed state.old (old.now, new.now)) }
     ensures err { OnErr result (state.new ≡ state.old) }
 {
     let paths = new_paths(alloc, state.tree.items(), old, new)?;
@@ -294,10 +289,11 @@ fn make_dir<B: FileBody>(
 ) -> Result<Reply, AskFault>
     requires ticks { state.old.tick + 1 < 2 ^ 64 }
     requires inodes { state.old.next_inode + 1 < 2 ^ 64 }
-    requires sorted { is_sorted path_cmp state.old.tree ≡ true }
+    requires sorted { is_sorted trees.path_cmp state.old.tree ≡ true }
     ensures reply { IfOk result (λ reply. asked B.files state.old (calls.Mkdir path.now) ≡ Ok reply) }
     ensures fault { IfErr result (IsFaultOf (asked B.files state.old (calls.Mkdir path.now))) }
-    ensures ok { OnOk result (state.new ≡ change B.files state.old (calls.Mkdir path.now)) }
+    ensures ok { OnOk result (state.new ≡ Change.change B.files state.old (calls.Mkdir path.now)) }
+    ensures snapshots { state.new.next_snapshot ≡ state.old.next_snapshot }
     ensures err { OnErr result (state.new ≡ state.old) }
 {
     let path = mkdir_at(alloc, state, path)?;
@@ -320,9 +316,9 @@ pub fn put_file<B: FileBody>(
 ) -> Result<Reply, NoMemory>
     requires ticks { state.old.tick + 1 < 2 ^ 64 }
     requires inodes { state.old.next_inode + 1 < 2 ^ 64 }
-    requires sorted { is_sorted path_cmp state.old.tree ≡ true }
+    requires sorted { is_sorted trees.path_cmp state.old.tree ≡ true }
     ensures reply { IfOk result (λ reply. reply ≡ made_reply state.old) }
-    ensures ok { OnOk result (state.new ≡ made_file B.files state.old path) }
+    ensures ok { OnOk result (state.new ≡ Change.made_file B.files state.old path) }
     ensures err { OnErr result (state.new ≡ state.old) }
 {
     let id = InodeId(state.next_inode);
@@ -344,10 +340,11 @@ fn make_file<B: FileBody>(
 ) -> Result<Reply, AskFault>
     requires ticks { state.old.tick + 1 < 2 ^ 64 }
     requires inodes { state.old.next_inode + 1 < 2 ^ 64 }
-    requires sorted { is_sorted path_cmp state.old.tree ≡ true }
+    requires sorted { is_sorted trees.path_cmp state.old.tree ≡ true }
     ensures reply { IfOk result (λ reply. asked B.files state.old (calls.Create path.now over) ≡ Ok reply) }
     ensures fault { IfErr result (IsFaultOf (asked B.files state.old (calls.Create path.now over))) }
-    ensures ok { OnOk result (state.new ≡ change B.files state.old (calls.Create path.now over)) }
+    ensures ok { OnOk result (state.new ≡ Change.change B.files state.old (calls.Create path.now over)) }
+    ensures snapshots { state.new.next_snapshot ≡ state.old.next_snapshot }
     ensures err { OnErr result (state.new ≡ state.old) }
 {
     let path = create_at(alloc, state, path, over)?;
@@ -363,9 +360,10 @@ fn delete<B: FileBody>(
     requires ticks { state.old.tick + 1 < 2 ^ 64 }
     ensures reply { IfOk result (λ reply. asked B.files state.old (calls.Delete path.now recursive) ≡ Ok reply) }
     ensures fault { IfErr result (IsFaultOf (asked B.files state.old (calls.Delete path.now recursive))) }
-    ensures ok { OnOk result (state.new ≡ change B.files state.old (calls.Delete path.now recursive)) }
+    ensures ok { OnOk result (state.new ≡ Change.change B.files state.old (calls.Delete path.now recursive)) }
     ensures tick { state.new.tick ≡ state.old.tick }
     ensures inodes { state.new.next_inode ≡ state.old.next_inode }
+    ensures snapshots { state.new.next_snapshot ≡ state.old.next_snapshot }
     ensures err { OnErr result (state.new ≡ state.old) }
 {
     let path = delete_at(alloc, state, path, recursive)?;
@@ -382,9 +380,10 @@ fn rename<B: FileBody>(
     requires ticks { state.old.tick + 1 < 2 ^ 64 }
     ensures reply { IfOk result (λ reply. asked B.files state.old (calls.Rename old.now new.now) ≡ Ok reply) }
     ensures fault { IfErr result (IsFaultOf (asked B.files state.old (calls.Rename old.now new.now))) }
-    ensures ok { OnOk result (state.new ≡ change B.files state.old (calls.Rename old.now new.now)) }
+    ensures ok { OnOk result (state.new ≡ Change.change B.files state.old (calls.Rename old.now new.now)) }
     ensures tick { state.new.tick ≡ state.old.tick }
     ensures inodes { state.new.next_inode ≡ state.old.next_inode }
+    ensures snapshots { state.new.next_snapshot ≡ state.old.next_snapshot }
     ensures err { OnErr result (state.new ≡ state.old) }
 {
     let paths = rename_at(alloc, state, old, new)?;
@@ -401,9 +400,10 @@ fn change_mode<B: FileBody>(
     requires ticks { state.old.tick + 1 < 2 ^ 64 }
     ensures reply { IfOk result (λ reply. asked B.files state.old (calls.SetMode path.now mode) ≡ Ok reply) }
     ensures fault { IfErr result (IsFaultOf (asked B.files state.old (calls.SetMode path.now mode))) }
-    ensures ok { OnOk result (state.new ≡ change B.files state.old (calls.SetMode path.now mode)) }
+    ensures ok { OnOk result (state.new ≡ Change.change B.files state.old (calls.SetMode path.now mode)) }
     ensures tick { state.new.tick ≡ state.old.tick }
     ensures inodes { state.new.next_inode ≡ state.old.next_inode }
+    ensures snapshots { state.new.next_snapshot ≡ state.old.next_snapshot }
     ensures err { OnErr result (state.new ≡ state.old) }
 {
     let path = set_mode_at(alloc, state, path)?;
@@ -422,8 +422,8 @@ fn longer(file: &Bytes, bytes: &[u8]) -> Result<Bytes, NoMemory>
 
 /// Puts a node in the place of the one at a path.
 fn put_node<B: Drop>(state: &mut State<B>, path: List<Name>, node: Node<B>) -> Result<(), NoMemory>
-    requires sorted { is_sorted path_cmp state.old.tree ≡ true }
-    ensures ok { OnOk result (state.new ≡ record state.old { tree = put path_cmp path node state.old.tree }) }
+    requires sorted { is_sorted trees.path_cmp state.old.tree ≡ true }
+    ensures ok { OnOk result (state.new ≡ record state.old { tree = put trees.path_cmp path node state.old.tree }) }
     ensures err { OnErr result (state.new ≡ state.old) }
 {
     let mut places = state.tree.take();
@@ -442,12 +442,13 @@ fn append(
     bytes: &Chunk,
 ) -> Result<Reply, AskFault>
     requires ticks { state.old.tick + 1 < 2 ^ 64 }
-    requires sorted { is_sorted path_cmp state.old.tree ≡ true }
+    requires sorted { is_sorted trees.path_cmp state.old.tree ≡ true }
     ensures reply { IfOk result (λ reply. asked plain_files state.old (calls.Append path.now bytes.now) ≡ Ok reply) }
     ensures fault { IfErr result (IsFaultOf (asked plain_files state.old (calls.Append path.now bytes.now))) }
-    ensures ok { OnOk result (state.new ≡ change plain_files state.old (calls.Append path.now bytes.now)) }
+    ensures ok { OnOk result (state.new ≡ Change.change plain_files state.old (calls.Append path.now bytes.now)) }
     ensures tick { state.new.tick ≡ state.old.tick }
     ensures inodes { state.new.next_inode ≡ state.old.next_inode }
+    ensures snapshots { state.new.next_snapshot ≡ state.old.next_snapshot }
     ensures err { OnErr result (state.new ≡ state.old) }
 {
     let (path, node, file) = append_at(alloc, state, path)?;
@@ -462,7 +463,8 @@ fn append(
 }
 
 /// Makes the change of a modifying call that uses no store, where it isn't refused, and gives the reply. The tick
-/// stays. After a refusal, and without memory, the state is as before.
+/// stays. After a refusal, and without memory, the state is as before. Calls on snapshots are answered as if memory
+/// wanted: only a plain state copies whole trees.
 pub fn make_change<B: FileBody>(
     alloc: Global,
     state: &mut State<B>,
@@ -472,11 +474,12 @@ pub fn make_change<B: FileBody>(
     requires storeless { uses_store call.now ≡ false }
     requires ticks { state.old.tick + 1 < 2 ^ 64 }
     requires inodes { state.old.next_inode + 1 < 2 ^ 64 }
-    requires sorted { is_sorted path_cmp state.old.tree ≡ true }
+    requires sorted { is_sorted trees.path_cmp state.old.tree ≡ true }
     ensures reply { IfOk result (λ reply. asked B.files state.old call.now ≡ Ok reply) }
     ensures fault { IfErr result (IsFaultOf (asked B.files state.old call.now)) }
-    ensures ok { OnOk result (state.new ≡ change B.files state.old call.now) }
+    ensures ok { OnOk result (state.new ≡ Change.change B.files state.old call.now) }
     ensures inodes { state.new.next_inode ≤ state.old.next_inode + 1 }
+    ensures snapshots { state.new.next_snapshot ≡ state.old.next_snapshot }
     ensures tick { state.new.tick ≡ state.old.tick }
     ensures err { OnErr result (state.new ≡ state.old) }
 {
@@ -486,15 +489,26 @@ pub fn make_change<B: FileBody>(
         Call::Delete { path, recursive } => delete(alloc, state, path, *recursive),
         Call::Rename { old, new } => rename(alloc, state, old, new),
         Call::SetMode { path, mode } => change_mode(alloc, state, path, *mode),
+        Call::Allow { .. }
+        | Call::Disallow { .. }
+        | Call::Snap { .. }
+        | Call::SnapDel { .. }
+        | Call::SnapRen { .. } => Err(AskFault::NoMemory),
         Call::Append { .. }
         | Call::Read { .. }
         | Call::ReadNext { .. }
         | Call::Stat { .. }
-        | Call::List { .. } => unreachable!(),
+        | Call::List { .. }
+        | Call::ListNext { .. }
+        | Call::Snaps { .. }
+        | Call::Dirs
+        | Call::Report { .. }
+        | Call::ReportNext { .. } => unreachable!(),
     }
 }
 
-/// Makes the change of a modifying call in a plain state, as `make_change` does, also of an append.
+/// Makes the change of a modifying call in a plain state, as `make_change` does, also of an append and of the
+/// calls on snapshots.
 pub fn make_plain_change(
     alloc: Global,
     state: &mut PlainState,
@@ -503,16 +517,23 @@ pub fn make_plain_change(
     requires modifying { is_modifying call.now ≡ true }
     requires ticks { state.old.tick + 1 < 2 ^ 64 }
     requires inodes { state.old.next_inode + 1 < 2 ^ 64 }
-    requires sorted { is_sorted path_cmp state.old.tree ≡ true }
+    requires snapshots { state.old.next_snapshot + 1 < 2 ^ 64 }
+    requires sorted { is_sorted trees.path_cmp state.old.tree ≡ true }
     ensures reply { IfOk result (λ reply. asked plain_files state.old call.now ≡ Ok reply) }
     ensures fault { IfErr result (IsFaultOf (asked plain_files state.old call.now)) }
-    ensures ok { OnOk result (state.new ≡ change plain_files state.old call.now) }
+    ensures ok { OnOk result (state.new ≡ Change.change plain_files state.old call.now) }
     ensures inodes { state.new.next_inode ≤ state.old.next_inode + 1 }
+    ensures snapshots { state.new.next_snapshot ≤ state.old.next_snapshot + 1 }
     ensures tick { state.new.tick ≡ state.old.tick }
     ensures err { OnErr result (state.new ≡ state.old) }
 {
     match call {
         Call::Append { path, bytes } => append(alloc, state, path, bytes),
+        Call::Allow { path } => allow(alloc, state, path),
+        Call::Disallow { path } => disallow(alloc, state, path),
+        Call::Snap { path, name } => snap(alloc, state, path, name),
+        Call::SnapDel { path, name } => snap_del(alloc, state, path, name),
+        Call::SnapRen { path, old, new } => snap_ren(alloc, state, path, old, new),
         _ => make_change(alloc, state, call),
     }
 }

@@ -1,6 +1,6 @@
 //! The lines of a printed tree.
 ghost use Rattle.std.specs.Prelude.{◌≡◌, ◌-◌, length, slice_get, IfOk};
-ghost use Rattle.hs_plain.specs.Lines.{tree_line as plain_tree_line, lines_of as plain_lines_of};
+ghost use Rattle.hs_plain.specs.Lines;
 
 use crate::files::FileBody;
 use crate::state::Node;
@@ -22,7 +22,7 @@ fn tree_line<B: FileBody>(
     tree: &[(RelPath, Node<B>)],
     place: &(RelPath, Node<B>),
 ) -> Result<TreeLine, NoMemory>
-    ensures { IfOk result (λ line. line ≡ plain_tree_line B.files.size tree.now place.now) }
+    ensures { IfOk result (λ line. line ≡ Lines.tree_line B.files.size tree.now place.now) }
 {
     let path = place.0.items();
     let node = &place.1;
@@ -42,7 +42,7 @@ pub fn lines_of<B: FileBody>(
     alloc: Global,
     tree: &[(RelPath, Node<B>)],
 ) -> Result<List<TreeLine>, NoMemory>
-    ensures { IfOk result (λ lines. lines ≡ plain_lines_of B.files.size tree.now) }
+    ensures { IfOk result (λ lines. lines ≡ Lines.lines_of B.files.size tree.now) }
 {
     let mut lines = Vec::with_capacity(alloc, tree.len())?;
     for place in tree {

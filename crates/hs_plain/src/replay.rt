@@ -2,11 +2,11 @@
 ghost use Rattle.std.specs.Prelude.{◌≡◌, ◌+◌, ◌<◌, ◌≤◌, ◌^◌, Ok, Err, IfOk, OnOk, true};
 ghost use Rattle.std.specs.FinMap.Entries.{is_sorted};
 ghost use Rattle.hs_plain.specs.Tree.{path_cmp};
-ghost use Rattle.hs_plain.specs.State.{start as plain_start};
-ghost use Rattle.hs_plain.specs.Answer.{is_modifying as is_plain_modifying};
+ghost use Rattle.hs_plain.specs.State as states;
+ghost use Rattle.hs_plain.specs.Answer;
 ghost use Rattle.hs_plain.specs.Files.{plain_files};
-ghost use Rattle.hs_plain.specs.Change.{changed_if, after as plain_after_entry};
-ghost use Rattle.hs_plain.specs.Faults.{is_answered as is_plain_answered};
+ghost use Rattle.hs_plain.specs.Change;
+ghost use Rattle.hs_plain.specs.Faults;
 ghost use Rattle.hs_plain.specs.Replay.{plain_after};
 
 use crate::answer::is_modifying;
@@ -18,7 +18,7 @@ use std::alloc::Global;
 
 /// The root alone.
 pub fn start<B: Drop>(alloc: Global) -> Result<State<B>, NoMemory>
-    ensures { IfOk result (λ state. state ≡ plain_start) }
+    ensures { IfOk result (λ state. state ≡ states.start) }
 {
     let root = Node {
         id: InodeId::ROOT,
@@ -40,7 +40,7 @@ pub fn start<B: Drop>(alloc: Global) -> Result<State<B>, NoMemory>
 
 /// Whether a call was answered: a refusal is an answer too.
 fn is_answered(made: Result<Reply, AskFault>) -> bool
-    ensures { result ≡ is_plain_answered made }
+    ensures { result ≡ Faults.is_answered made }
 {
     match made {
         Ok(_) | Err(AskFault::Refused(_)) => true,
@@ -53,9 +53,11 @@ fn is_answered(made: Result<Reply, AskFault>) -> bool
 fn make_accepted(alloc: Global, state: &mut PlainState, call: &Call) -> Result<(), NoMemory>
     requires ticks { state.old.tick + 1 < 2 ^ 64 }
     requires inodes { state.old.next_inode + 1 < 2 ^ 64 }
+    requires snapshots { state.old.next_snapshot + 1 < 2 ^ 64 }
     requires sorted { is_sorted path_cmp state.old.tree ≡ true }
-    ensures changed { OnOk result (state.new ≡ changed_if (is_plain_modifying call.now) plain_files state.old call.now) }
+    ensures changed { OnOk result (state.new ≡ Change.changed_if (Answer.is_modifying call.now) plain_files state.old call.now) }
     ensures inodes { OnOk result (state.new.next_inode ≤ state.old.next_inode + 1) }
+    ensures snapshots { OnOk result (state.new.next_snapshot ≤ state.old.next_snapshot + 1) }
     ensures tick { OnOk result (state.new.tick ≡ state.old.tick) }
     ensures sorted { OnOk result (is_sorted path_cmp state.new.tree ≡ true) }
 {
@@ -73,9 +75,11 @@ fn make_accepted(alloc: Global, state: &mut PlainState, call: &Call) -> Result<(
 fn apply(alloc: Global, state: &mut PlainState, entry: &Entry) -> Result<(), NoMemory>
     requires ticks { state.old.tick + 1 < 2 ^ 64 }
     requires inodes { state.old.next_inode + 1 < 2 ^ 64 }
+    requires snapshots { state.old.next_snapshot + 1 < 2 ^ 64 }
     requires sorted { is_sorted path_cmp state.old.tree ≡ true }
-    ensures after { OnOk result (state.new ≡ plain_after_entry plain_files state.old entry.now) }
+    ensures after { OnOk result (state.new ≡ Change.after plain_files state.old entry.now) }
     ensures inodes { OnOk result (state.new.next_inode ≤ state.old.next_inode + 1) }
+    ensures snapshots { OnOk result (state.new.next_snapshot ≤ state.old.next_snapshot + 1) }
     ensures tick { OnOk result (state.new.tick ≡ state.old.tick + 1) }
     ensures sorted { OnOk result (is_sorted path_cmp state.new.tree ≡ true) }
 {

@@ -2,8 +2,10 @@
 ghost use Rattle.std.specs.Prelude.{◌≡◌, ◌++◌, ◌≤◌, length, Ok, Err, IfOk, OnOk, OnErr, MatchResult};
 ghost use Rattle.std.specs.List.{list_any, prefix_len};
 ghost use Rattle.hs_plain.specs.Faults.{IsFaultOf};
-ghost use Rattle.hs_plain.specs.State.{same_inode, is_snapshottable as is_plain_snapshottable, snapshot_root as plain_snapshot_root, member_named as plain_member_named, member_with as plain_member_with, resolve as plain_resolve, place_of as plain_place_of, items_of as plain_items_of, items_at as plain_items_at, with_item as plain_with_item, is_lesser, snapshot_items as plain_snapshot_items};
-ghost use Rattle.hs_plain.specs.Answer.{file_in as plain_file_in, file_there as plain_file_there, file_at as plain_file_at, is_live as is_plain_live, is_gone as is_plain_gone};
+ghost use Rattle.hs_plain.specs.Tree;
+ghost use Rattle.hs_plain.specs.State as states;
+ghost use Rattle.hs_plain.specs.Modifying;
+ghost use Rattle.hs_plain.specs.Reading;
 ghost use Rattle.hs_plain.specs.declared.resolve.AskFault.TheVariants.{Refused as fault_refused, NoMemory as fault_no_memory};
 
 use crate::state::{Body, Member, Node, State};
@@ -41,7 +43,7 @@ impl From<NoMemory> for AskFault {
 
 /// Whether snapshots may be made in the directory with this id.
 pub fn is_snapshottable<B>(state: &State<B>, directory: InodeId) -> bool
-    ensures { result ≡ is_plain_snapshottable state.now directory }
+    ensures { result ≡ states.is_snapshottable state.now directory }
 {
     state
         .snapshottable
@@ -52,7 +54,7 @@ pub fn is_snapshottable<B>(state: &State<B>, directory: InodeId) -> bool
 
 /// The snapshottable directory at a path; else nothing is found below its `.snapshot`.
 fn snapshot_root<B>(state: &State<B>, base: &[Name]) -> Result<InodeId, Refusal>
-    ensures { result ≡ plain_snapshot_root state.now base.now }
+    ensures { result ≡ states.snapshot_root state.now base.now }
 {
     match node_at(state.tree.items(), base) {
         Some(node) if is_snapshottable(state, node.id) => Ok(node.id),
@@ -66,7 +68,7 @@ pub fn member_named<'m, B>(
     directory: InodeId,
     name: &Name,
 ) -> Result<&'m Member<B>, Refusal>
-    ensures { MatchResult result (λ member. plain_member_named members.now directory name.now ≡ Ok member.now) (λ why. plain_member_named members.now directory name.now ≡ Err why) }
+    ensures { MatchResult result (λ member. states.member_named members.now directory name.now ≡ Ok member.now) (λ why. states.member_named members.now directory name.now ≡ Err why) }
 {
     for member in members {
         if member.directory == directory && member.name == *name {
@@ -78,7 +80,7 @@ pub fn member_named<'m, B>(
 
 /// The snapshot of a directory that has this id.
 pub fn member_with<B>(members: &[Member<B>], snapshot: SnapId) -> Result<&Member<B>, Refusal>
-    ensures { MatchResult result (λ member. plain_member_with members.now snapshot ≡ Ok member.now) (λ why. plain_member_with members.now snapshot ≡ Err why) }
+    ensures { MatchResult result (λ member. states.member_with members.now snapshot ≡ Ok member.now) (λ why. states.member_with members.now snapshot ≡ Err why) }
 {
     for member in members {
         if member.snapshot == snapshot {
@@ -90,7 +92,7 @@ pub fn member_with<B>(members: &[Member<B>], snapshot: SnapId) -> Result<&Member
 
 /// Where a path leads: a node of the live tree, a list of snapshots, or a node of a copied tree.
 pub fn resolve<B>(state: &State<B>, path: &Path) -> Result<Place, Refusal>
-    ensures { result ≡ plain_resolve state.now path.now }
+    ensures { result ≡ states.resolve state.now path.now }
 {
     let base = path.base.items();
     match &path.tail {
@@ -111,7 +113,7 @@ fn items_of<B>(
     tree: &[(RelPath, Node<B>)],
     id: InodeId,
 ) -> Result<List<Item>, AskFault>
-    ensures { MatchResult result (λ items. plain_items_of tree.now (plain_place_of tree.now id) ≡ Ok items) (IsFaultOf (plain_items_of tree.now (plain_place_of tree.now id))) }
+    ensures { MatchResult result (λ items. states.items_of tree.now (Tree.place_of tree.now id) ≡ Ok items) (IsFaultOf (states.items_of tree.now (Tree.place_of tree.now id))) }
 {
     match place_of(tree, id) {
         None => Err(AskFault::Refused(Refusal::NotFound)),
@@ -127,7 +129,7 @@ fn items_of<B>(
 
 /// How many items at the front have a lesser name.
 fn rank_of(items: &[Item], name: &Name) -> usize
-    ensures rank { result ≡ prefix_len (is_lesser name.now) items.now }
+    ensures rank { result ≡ prefix_len (states.is_lesser name.now) items.now }
     ensures within { result ≤ length items.now }
 {
     for (rank, item) in items.iter().enumerate() {
@@ -141,7 +143,7 @@ fn rank_of(items: &[Item], name: &Name) -> usize
 #[tactic(auto, using(crate::proofs::Ranks::with_item_at))]
 /// Puts an item in its place by name.
 fn put_item(items: &mut Vec<Item>, item: Item) -> Result<(), NoMemory>
-    ensures { OnOk result (items.new.items ≡ plain_with_item item items.old.items) }
+    ensures { OnOk result (items.new.items ≡ states.with_item item items.old.items) }
 {
     let rank = rank_of(items.as_slice(), &item.name);
     items.insert(rank, item)?;
@@ -154,7 +156,7 @@ fn snapshot_items<B>(
     members: &[Member<B>],
     directory: InodeId,
 ) -> Result<List<Item>, NoMemory>
-    ensures { IfOk result (λ items. items ≡ plain_snapshot_items members.now directory) }
+    ensures { IfOk result (λ items. items ≡ states.snapshot_items members.now directory) }
 {
     let mut items = Vec::new(alloc);
     for member in members.iter().rev() {
@@ -175,7 +177,7 @@ fn snapshot_items<B>(
 
 /// The items at a place, in name order.
 pub fn items_at<B>(alloc: Global, state: &State<B>, place: Place) -> Result<List<Item>, AskFault>
-    ensures { MatchResult result (λ items. plain_items_at state.now place ≡ Ok items) (IsFaultOf (plain_items_at state.now place)) }
+    ensures { MatchResult result (λ items. states.items_at state.now place ≡ Ok items) (IsFaultOf (states.items_at state.now place)) }
 {
     match place {
         Place::Live(id) => items_of(alloc, state.tree.items(), id),
@@ -194,7 +196,7 @@ pub fn items_at<B>(alloc: Global, state: &State<B>, place: Place) -> Result<List
 
 /// What stands for a file's bytes; a directory is no file.
 pub fn file_in<B>(body: &Body<B>) -> Result<&B, Refusal>
-    ensures { MatchResult result (λ file. plain_file_in body.now ≡ Ok file.now) (λ why. plain_file_in body.now ≡ Err why) }
+    ensures { MatchResult result (λ file. Modifying.file_in body.now ≡ Ok file.now) (λ why. Modifying.file_in body.now ≡ Err why) }
 {
     match body {
         Body::File(file) => Ok(file),
@@ -204,7 +206,7 @@ pub fn file_in<B>(body: &Body<B>) -> Result<&B, Refusal>
 
 /// The file with this id.
 fn file_of<B>(tree: &[(RelPath, Node<B>)], id: InodeId) -> Result<&B, Refusal>
-    ensures { MatchResult result (λ file. plain_file_there (plain_place_of tree.now id) ≡ Ok file.now) (λ why. plain_file_there (plain_place_of tree.now id) ≡ Err why) }
+    ensures { MatchResult result (λ file. Reading.file_there (Tree.place_of tree.now id) ≡ Ok file.now) (λ why. Reading.file_there (Tree.place_of tree.now id) ≡ Err why) }
 {
     match place_of(tree, id) {
         Some(place) => file_in(&place.1.body),
@@ -214,7 +216,7 @@ fn file_of<B>(tree: &[(RelPath, Node<B>)], id: InodeId) -> Result<&B, Refusal>
 
 /// The file at a place; a list of snapshots is none.
 pub fn file_at<B>(state: &State<B>, place: Place) -> Result<&B, Refusal>
-    ensures { MatchResult result (λ file. plain_file_at state.now place ≡ Ok file.now) (λ why. plain_file_at state.now place ≡ Err why) }
+    ensures { MatchResult result (λ file. Reading.file_at state.now place ≡ Ok file.now) (λ why. Reading.file_at state.now place ≡ Err why) }
 {
     match place {
         Place::Live(id) => file_of(state.tree.items(), id),
@@ -231,19 +233,24 @@ pub fn file_at<B>(state: &State<B>, place: Place) -> Result<&B, Refusal>
 
 /// Whether a snapshot has this id.
 fn is_live<B>(members: &[Member<B>], snapshot: SnapId) -> bool
-    ensures { result ≡ is_plain_live members.now snapshot }
+    ensures { result ≡ Reading.is_live members.now snapshot }
 {
     members.iter().any(|member| member.snapshot == snapshot)
 }
 
-/// Whether a place lies in a snapshot that isn't there any more. No snapshot has the id 0.
+/// Whether an id is neither that of a snapshot nor 0, the current state's.
+pub fn is_deleted<B>(state: &State<B>, snapshot: SnapId) -> bool
+    ensures { result ≡ Reading.is_deleted state.now snapshot }
+{
+    snapshot != SnapId(0) && !is_live(state.members.items(), snapshot)
+}
+
+/// Whether a place lies in a snapshot that isn't there any more.
 pub fn is_gone<B>(state: &State<B>, place: Place) -> bool
-    ensures { result ≡ is_plain_gone state.now place }
+    ensures { result ≡ Reading.is_gone state.now place }
 {
     match place {
         Place::Live(_) | Place::SnapshotsOf(_) => false,
-        Place::Frozen(_, snapshot) => {
-            snapshot != SnapId(0) && !is_live(state.members.items(), snapshot)
-        }
+        Place::Frozen(_, snapshot) => is_deleted(state, snapshot),
     }
 }

@@ -2,8 +2,7 @@
 ghost use Rattle.std.specs.Prelude.{◌≡◌, ◌++◌, ◌<◌, Ok, Err, IfOk, OnOk, OnErr, MatchResult, map};
 ghost use Rattle.std.specs.Option.{option_copied, option_to_list};
 ghost use Rattle.std.specs.Ordering.{is_eq};
-ghost use Rattle.hs_plain.specs.Tree.{node_at as plain_node_at, walks_above as plain_walks_above, walk as plain_walk, passes as plain_passes, path_cmp, is_dir as is_plain_dir, name_below as plain_name_below, child_item, listing as plain_listing, child_count as plain_child_count, size_of as plain_size_of, is_root_path as is_plain_root_path, is_above as is_plain_above};
-ghost use Rattle.hs_plain.specs.State.{place_of as plain_place_of};
+ghost use Rattle.hs_plain.specs.Tree;
 
 use crate::files::FileBody;
 use crate::state::{Body, Node};
@@ -14,7 +13,7 @@ use std::cmp::Ordering;
 impl<B> Node<B> {
     /// Whether the node is a directory, which alone may have nodes below it.
     pub fn is_dir(&self) -> bool
-        ensures { result ≡ is_plain_dir self.now }
+        ensures { result ≡ Tree.is_dir self.now }
     {
         match self.body {
             Body::File(_) => false,
@@ -25,21 +24,21 @@ impl<B> Node<B> {
 
 /// The order of paths: name by name, a path before those below it.
 pub fn compare_paths(a: &[Name], b: &[Name]) -> Ordering
-    ensures { result ≡ path_cmp a.now b.now }
+    ensures { result ≡ Tree.path_cmp a.now b.now }
 {
     a.cmp(b)
 }
 
 /// Whether a path is that of a place. A path of another length is told by its length alone.
 fn is_path_of(place: &[Name], path: &[Name]) -> bool
-    ensures { result ≡ is_eq (path_cmp path.now place.now) }
+    ensures { result ≡ is_eq (Tree.path_cmp path.now place.now) }
 {
     place.len() == path.len() && compare_paths(path, place) == Ordering::Equal
 }
 
 /// The node at a path.
 pub fn node_at<'t, B>(tree: &'t [(RelPath, Node<B>)], path: &[Name]) -> Option<&'t Node<B>>
-    ensures { option_copied result ≡ plain_node_at tree.now path.now }
+    ensures { option_copied result ≡ Tree.node_at tree.now path.now }
 {
     for (place, node) in tree {
         if is_path_of(place.items(), path) {
@@ -51,7 +50,7 @@ pub fn node_at<'t, B>(tree: &'t [(RelPath, Node<B>)], path: &[Name]) -> Option<&
 
 /// A walk goes on below a directory alone.
 pub fn passes<B>(node: Option<&Node<B>>) -> Result<(), Refusal>
-    ensures { result ≡ plain_passes (option_copied node.entry) }
+    ensures { result ≡ Tree.passes (option_copied node.entry) }
 {
     match node {
         Some(node) if node.is_dir() => Ok(()),
@@ -64,7 +63,7 @@ pub fn passes<B>(node: Option<&Node<B>>) -> Result<(), Refusal>
 /// The walk from the root to a path's parent: `NotFound` at the first missing component, `NotDir` at the
 /// first file that has components after it.
 pub fn walks_above<B>(tree: &[(RelPath, Node<B>)], path: &[Name]) -> Result<(), Refusal>
-    ensures { result ≡ plain_walks_above tree.now path.now }
+    ensures { result ≡ Tree.walks_above tree.now path.now }
 {
     for depth in 0..path.len() {
         passes(node_at(tree, &path[..depth]))?;
@@ -74,7 +73,7 @@ pub fn walks_above<B>(tree: &[(RelPath, Node<B>)], path: &[Name]) -> Result<(), 
 
 /// The whole walk: the node at the path.
 pub fn walk<'t, B>(tree: &'t [(RelPath, Node<B>)], path: &[Name]) -> Result<&'t Node<B>, Refusal>
-    ensures { MatchResult result (λ node. plain_walk tree.now path.now ≡ Ok node.now) (λ why. plain_walk tree.now path.now ≡ Err why) }
+    ensures { MatchResult result (λ node. Tree.walk tree.now path.now ≡ Ok node.now) (λ why. Tree.walk tree.now path.now ≡ Err why) }
 {
     walks_above(tree, path)?;
     node_at(tree, path).ok_or(Refusal::NotFound)
@@ -82,7 +81,7 @@ pub fn walk<'t, B>(tree: &'t [(RelPath, Node<B>)], path: &[Name]) -> Result<&'t 
 
 /// The place of the node with this id.
 pub fn place_of<B>(tree: &[(RelPath, Node<B>)], id: InodeId) -> Option<&(RelPath, Node<B>)>
-    ensures { option_copied result ≡ plain_place_of tree.now id }
+    ensures { option_copied result ≡ Tree.place_of tree.now id }
 {
     for place in tree {
         if place.1.id == id {
@@ -94,7 +93,7 @@ pub fn place_of<B>(tree: &[(RelPath, Node<B>)], id: InodeId) -> Option<&(RelPath
 
 /// The one name that leads from a directory to a path, if one name does.
 pub fn name_below<'p>(dir: &[Name], path: &'p [Name]) -> Option<&'p Name>
-    ensures { option_copied result ≡ plain_name_below dir.now path.now }
+    ensures { option_copied result ≡ Tree.name_below dir.now path.now }
 {
     // Most paths are told apart by their lengths alone.
     if path.len() != dir.len() + 1 {
@@ -108,7 +107,7 @@ pub fn name_below<'p>(dir: &[Name], path: &'p [Name]) -> Option<&'p Name>
 
 /// How many children a directory has.
 pub fn child_count<B>(tree: &[(RelPath, Node<B>)], path: &[Name]) -> usize
-    ensures { result ≡ plain_child_count tree.now path.now }
+    ensures { result ≡ Tree.child_count tree.now path.now }
 {
     let mut children = 0;
     for place in tree {
@@ -121,7 +120,7 @@ pub fn child_count<B>(tree: &[(RelPath, Node<B>)], path: &[Name]) -> usize
 
 /// Bytes of a file, children of a directory.
 pub fn size_of<B: FileBody>(tree: &[(RelPath, Node<B>)], path: &[Name], body: &Body<B>) -> u64
-    ensures { result ≡ plain_size_of B.files.size tree.now path.now body.now }
+    ensures { result ≡ Tree.size_of B.files.size tree.now path.now body.now }
 {
     match body {
         Body::File(file) => file.size(),
@@ -131,14 +130,14 @@ pub fn size_of<B: FileBody>(tree: &[(RelPath, Node<B>)], path: &[Name], body: &B
 
 /// Whether a path is the root's.
 pub fn is_root_path(path: &[Name]) -> bool
-    ensures { result ≡ is_plain_root_path path.now }
+    ensures { result ≡ Tree.is_root_path path.now }
 {
     path.is_empty()
 }
 
 /// Whether a path lies below another.
 pub fn is_above(above: &[Name], path: &[Name]) -> bool
-    ensures { result ≡ is_plain_above above.now path.now }
+    ensures { result ≡ Tree.is_above above.now path.now }
 {
     path.starts_with(above) && above.len() < path.len()
 }
@@ -149,7 +148,7 @@ pub fn listing<B>(
     tree: &[(RelPath, Node<B>)],
     dir: &[Name],
 ) -> Result<List<Item>, NoMemory>
-    ensures { IfOk result (λ items. items ≡ plain_listing tree.now dir.now) }
+    ensures { IfOk result (λ items. items ≡ Tree.listing tree.now dir.now) }
 {
     let mut items = Vec::new(alloc);
     for place in tree {
@@ -164,7 +163,7 @@ fn push_child<B>(
     dir: &[Name],
     place: &(RelPath, Node<B>),
 ) -> Result<(), NoMemory>
-    ensures { OnOk result (items.new.items ≡ items.old.items ++ option_to_list (child_item dir.now place.now)) }
+    ensures { OnOk result (items.new.items ≡ items.old.items ++ option_to_list (Tree.child_item dir.now place.now)) }
 {
     if let Some(name) = name_below(dir, place.0.items()) {
         let item = Item {

@@ -3,11 +3,8 @@ use Rattle.std.specs.Prelude.{◌≡◌, ℕ, ◌+◌, ◌-◌, ◌/◌, ◌≤�
 use Rattle.std.specs.List.{IsDistinct}
 use Rattle.std.specs.Map.{lookup}
 use Rattle.std.specs.Option.{unwrap_or}
+use Rattle.hs_types.specs.Limits.{block_size}
 use Rattle.hs_types.specs.declared.ids.BlockId.{BlockId}
-
--- the most bytes of a block
-abbrev pub block_size : ℕ
-block_size = 65536
 
 -- the least number of blocks that holds that many bytes
 abbrev pub blocks_for : ℕ → ℕ

@@ -1,12 +1,10 @@
-//! Calls of a namenode, their replies, and the entries of its journal.
-ghost use Rattle.std.specs.Prelude.{◌≡◌};
-ghost use Rattle.hs_types.specs.Refusals.{number_of, refusal_name};
+//! Calls of a namenode, and the cursors by which they go on.
+ghost use Rattle.std.specs.Prelude.{◌≡◌, IfOk};
 
 use crate::chunk::Chunk;
-use crate::ids::{CallerId, InodeId, SnapId};
-use crate::list::List;
+use crate::ids::{InodeId, SnapId};
 use crate::memory::{Duplicate, NoMemory};
-use crate::name::Name;
+use crate::name::{Name, NameText};
 use crate::numbers::{Mode, PageSize, ReadLen};
 use crate::path::PathText;
 
@@ -42,6 +40,30 @@ pub enum Call {
         path: PathText,
         mode: Mode,
     },
+    /// Makes a directory snapshottable.
+    Allow {
+        path: PathText,
+    },
+    /// Makes a directory without snapshots one that is not snapshottable.
+    Disallow {
+        path: PathText,
+    },
+    /// Freezes a snapshottable directory's subtree under a name.
+    Snap {
+        path: PathText,
+        name: NameText,
+    },
+    /// Removes a snapshot.
+    SnapDel {
+        path: PathText,
+        name: NameText,
+    },
+    /// Gives a snapshot another name. It keeps its id.
+    SnapRen {
+        path: PathText,
+        old: NameText,
+        new: NameText,
+    },
     /// The bytes of a file from a place on, at most so many.
     Read {
         path: PathText,
@@ -60,6 +82,29 @@ pub enum Call {
     /// The first page of a directory's items, in name order.
     List {
         path: PathText,
+        size: PageSize,
+    },
+    /// The items behind those that an earlier page held.
+    ListNext {
+        cursor: ListCursor,
+        size: PageSize,
+    },
+    /// The snapshots of a directory, in order of making.
+    Snaps {
+        path: PathText,
+    },
+    /// All snapshottable directories, in path order.
+    Dirs,
+    /// The first page of what changed in a snapshottable directory from one point in time to another.
+    Report {
+        path: PathText,
+        from: Point,
+        to: Point,
+        size: PageSize,
+    },
+    /// The lines behind those that an earlier page held.
+    ReportNext {
+        cursor: ReportCursor,
         size: PageSize,
     },
 }
@@ -88,6 +133,17 @@ impl Duplicate for Call {
                 path: path.copy()?,
                 mode: *mode,
             }),
+            Call::Allow { path } => Ok(Call::Allow { path: path.copy()? }),
+            Call::Disallow { path } => Ok(Call::Disallow { path: path.copy()? }),
+            Call::Snap { path, name } => Ok(Call::Snap {
+                path: path.copy()?,
+                name: name.copy()?,
+            }),
+            Call::SnapDel { path, name } => Ok(Call::SnapDel {
+                path: path.copy()?,
+                name: name.copy()?,
+            }),
+            Call::SnapRen { path, old, new } => copied_rename(path, old, new),
             Call::Read { path, offset, len } => Ok(Call::Read {
                 path: path.copy()?,
                 offset: *offset,
@@ -97,124 +153,73 @@ impl Duplicate for Call {
                 cursor: *cursor,
                 len: *len,
             }),
+            Call::Dirs => Ok(Call::Dirs),
             Call::Stat { path } => Ok(Call::Stat { path: path.copy()? }),
             Call::List { path, size } => Ok(Call::List {
                 path: path.copy()?,
+                size: *size,
+            }),
+            Call::ListNext { cursor, size } => Ok(Call::ListNext {
+                cursor: cursor.copy()?,
+                size: *size,
+            }),
+            Call::Snaps { path } => Ok(Call::Snaps { path: path.copy()? }),
+            Call::Report {
+                path,
+                from,
+                to,
+                size,
+            } => copied_report(path, from, to, *size),
+            Call::ReportNext { cursor, size } => Ok(Call::ReportNext {
+                cursor: *cursor,
                 size: *size,
             }),
         }
     }
 }
 
-/// What a namenode answers.
+/// The call that gives a snapshot another name, from copies.
+fn copied_rename(path: &PathText, old: &NameText, new: &NameText) -> Result<Call, NoMemory>
+    ensures { IfOk result (λ call. call ≡ Call.SnapRen path.now old.now new.now) }
+{
+    Ok(Call::SnapRen {
+        path: path.copy()?,
+        old: old.copy()?,
+        new: new.copy()?,
+    })
+}
+
+/// The call that asks for a report, from copies.
+fn copied_report(
+    path: &PathText,
+    from: &Point,
+    to: &Point,
+    size: PageSize,
+) -> Result<Call, NoMemory>
+    ensures { IfOk result (λ call. call ≡ Call.Report path.now from.now to.now size) }
+{
+    Ok(Call::Report {
+        path: path.copy()?,
+        from: from.copy()?,
+        to: to.copy()?,
+        size,
+    })
+}
+
+/// One end of a report.
 #[derive(Debug, Drop, PartialEq, Eq)]
-pub enum Reply {
-    /// A new node, with this id.
-    Made {
-        id: InodeId,
-    },
-    /// The call was accepted.
-    Done,
-    /// Bytes of a file. `next` is `None` exactly where the end is reached.
-    Bytes {
-        bytes: Chunk,
-        next: Option<ReadCursor>,
-    },
-    /// What a node is. `size` is the number of bytes of a file, of children of a directory, or of snapshots of a list of
-    /// snapshots, which has the other fields of its directory.
-    Stat {
-        id: InodeId,
-        is_dir: bool,
-        mode: Mode,
-        stamp: u64,
-        size: u64,
-    },
-    /// Items in name order. `next` is `None` exactly where no item is left.
-    Page {
-        items: List<Item>,
-        next: Option<ListCursor>,
-    },
-    /// The call is refused.
-    Refused(Refusal),
-    /// Memory ran out.
-    NoMemory,
+pub enum Point {
+    /// The snapshot of this name.
+    Snapshot(NameText),
+    /// The current state.
+    Now,
 }
 
-/// Why a call is refused. They are tested in the order of their numbers, and the first that holds is answered.
-#[derive(Clone, Copy, Debug, PartialEq, Eq)]
-pub enum Refusal {
-    /// The path's text is no path.
-    BadPath,
-    /// A component or the path's text has too many bytes.
-    TooLong,
-    /// The path has too many components.
-    TooDeep,
-    /// The path of a modifying call is a list of snapshots.
-    Reserved,
-    /// The path of a modifying call lies in a snapshot.
-    ReadOnly,
-    /// A component of the path isn't there.
-    NotFound,
-    /// A file stands where a directory is needed.
-    NotDir,
-    /// A directory stands where a file is needed.
-    NotFile,
-    /// A node stands where a new one is to be made.
-    Exists,
-    /// The root can be neither deleted nor renamed.
-    IsRoot,
-    /// A directory with children is deleted with them only where that is asked for.
-    NotEmpty,
-    /// A node's new place is below itself.
-    IntoItself,
-    /// The snapshot of a cursor was deleted.
-    Gone,
-    /// The store of blocks failed.
-    StoreFault,
-}
-
-impl Refusal {
-    /// The number of the refusal, by which refusals are tested.
-    pub fn number(&self) -> u8
-        ensures { result ≡ number_of self.now }
-    {
+impl Duplicate for Point {
+    fn copy(&self) -> Result<Point, NoMemory> {
         match self {
-            Refusal::BadPath => 1,
-            Refusal::TooLong => 2,
-            Refusal::TooDeep => 3,
-            Refusal::Reserved => 4,
-            Refusal::ReadOnly => 5,
-            Refusal::NotFound => 6,
-            Refusal::NotDir => 7,
-            Refusal::NotFile => 8,
-            Refusal::Exists => 9,
-            Refusal::IsRoot => 11,
-            Refusal::NotEmpty => 12,
-            Refusal::IntoItself => 14,
-            Refusal::Gone => 20,
-            Refusal::StoreFault => 23,
-        }
-    }
-
-    /// The name of the refusal, as it is printed: that of the variant.
-    pub fn name(&self) -> &'static str
-        ensures { result.now ≡ refusal_name self.now }
-    {
-        match self {
-            Refusal::BadPath => "BadPath",
-            Refusal::TooLong => "TooLong",
-            Refusal::TooDeep => "TooDeep",
-            Refusal::Reserved => "Reserved",
-            Refusal::ReadOnly => "ReadOnly",
-            Refusal::NotFound => "NotFound",
-            Refusal::NotDir => "NotDir",
-            Refusal::NotFile => "NotFile",
-            Refusal::Exists => "Exists",
-            Refusal::IsRoot => "IsRoot",
-            Refusal::NotEmpty => "NotEmpty",
-            Refusal::IntoItself => "IntoItself",
-            Refusal::Gone => "Gone",
-            Refusal::StoreFault => "StoreFault",
+            Point::Snapshot(name) => Ok(Point::Snapshot(name.copy()?)),
+            Point::Now => Ok(Point::Now),
         }
     }
 }
@@ -239,6 +244,19 @@ pub struct ListCursor {
     pub after: Option<Name>,
 }
 
+impl Duplicate for ListCursor {
+    fn copy(&self) -> Result<ListCursor, NoMemory> {
+        let after = match &self.after {
+            Some(name) => Some(name.copy()?),
+            None => None,
+        };
+        Ok(ListCursor {
+            place: self.place,
+            after,
+        })
+    }
+}
+
 /// Where the next page of a read begins.
 #[derive(Clone, Copy, Debug, PartialEq, Eq)]
 pub struct ReadCursor {
@@ -248,71 +266,15 @@ pub struct ReadCursor {
     pub offset: u64,
 }
 
-/// One item of a listing.
-#[derive(Debug, Drop, PartialEq, Eq)]
-pub struct Item {
-    pub name: Name,
-    /// In a list of snapshots the id of the directory that they are of.
-    pub id: InodeId,
-    pub is_dir: bool,
-}
-
-/// Whether a journal entry was answered with an Ok reply, or with a fault of the store.
+/// Where the next page of a report begins. The id 0 is the current state.
 #[derive(Clone, Copy, Debug, PartialEq, Eq)]
-pub enum EntryKind {
-    /// The reply was an Ok reply.
-    Accepted,
-    /// The reply was a fault of the store.
-    Faulted,
-}
-
-/// One entry of a namenode's journal.
-#[derive(Debug, Drop, PartialEq, Eq)]
-pub struct Entry {
-    pub caller: CallerId,
-    /// Counts the caller's calls on this namenode from 1, whatever their replies.
-    pub seq: u64,
-    pub kind: EntryKind,
-    pub call: Call,
-}
-
-/// A reply, with its place in the history.
-#[derive(Debug, Drop, PartialEq, Eq)]
-pub struct Answered {
-    pub reply: Reply,
-    /// The index of the call's entry, or else the length of the journal after which the reply is given.
-    pub position: u64,
-    /// The call, exactly where it left no entry.
-    pub back: Option<Call>,
-}
-
-/// One node of a printed tree.
-#[derive(Debug, Drop, PartialEq, Eq)]
-pub struct TreeLine {
-    /// How many directories stand above the node.
-    pub depth: u64,
-    pub id: InodeId,
-    pub is_dir: bool,
-    pub mode: Mode,
-    /// The tick of the last entry that changed the node, from 1; 0 where none did.
-    pub stamp: u64,
-    /// Bytes of a file, or children of a directory.
-    pub size: u64,
-    /// `None` for the root alone.
-    pub name: Option<Name>,
-}
-
-/// How much a namenode holds.
-#[derive(Clone, Copy, Debug, PartialEq, Eq)]
-pub struct Counts {
-    /// Inodes that are kept.
-    pub rows: u64,
-    /// Records of what changed between snapshots.
-    pub records: u64,
-    /// Names in lists of children.
-    pub list_entries: u64,
-    /// Snapshots of all directories.
-    pub snapshots: u64,
-    /// Blocks in the store.
-    pub blocks: u64,
+pub struct ReportCursor {
+    /// The directory whose changes are reported.
+    pub root: InodeId,
+    pub from: SnapId,
+    pub to: SnapId,
+    /// The tick at which the report began; `None` begins at the tick of the call. A cursor in a reply has one.
+    pub tick: Option<u64>,
+    /// How many lines stand before the page.
+    pub index: u64,
 }

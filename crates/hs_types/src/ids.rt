@@ -13,7 +13,7 @@ pub struct SnapId(pub u64);
 pub struct BlockId(pub u64);
 
 /// The number of a caller of a namenode.
-#[derive(Clone, Copy, Debug, PartialEq, Eq, PartialOrd, Ord, Hash)]
+#[derive(Clone, Copy, Debug, PartialEq, Eq)]
 pub struct CallerId(pub u32);
 
 impl InodeId {
@@ -22,7 +22,7 @@ impl InodeId {
 }
 
 /// Which of the two namenodes of a sync.
-#[derive(Clone, Copy, Debug, PartialEq, Eq, PartialOrd, Ord, Hash)]
+#[derive(Clone, Copy, Debug, PartialEq, Eq)]
 pub enum Side {
     /// The one that is read, whose changes are copied.
     Source,

@@ -9,8 +9,8 @@ use crate::text::Text;
 use std::alloc::Global;
 use std::marker::Model;
 
-/// A text that was said as the name of a snapshot. It may be no name at all.
-#[derive(Debug, Drop, PartialEq, Eq, PartialOrd, Ord, Hash)]
+/// A text that was said as the name of a snapshot, or as a word of the command line. It may be no name at all.
+#[derive(Debug, Drop, PartialEq, Eq)]
 pub struct NameText {
     text: Text,
 }

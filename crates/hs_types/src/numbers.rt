@@ -4,7 +4,7 @@ ghost use Rattle.std.specs.Prelude.{◌≡◌, ◌≤◌, IfSome, IfNone};
 use std::marker::Model;
 
 /// The permission bits of a node, at most 1777 octal. They are kept and shown, and nothing is refused by them.
-#[derive(Clone, Copy, Debug, PartialEq, Eq, PartialOrd, Ord, Hash)]
+#[derive(Clone, Copy, Debug, PartialEq, Eq)]
 pub struct Mode {
     bits: u16,
 }
@@ -61,7 +61,7 @@ impl Mode {
 }
 
 /// How many entries a page holds at most, from 1 to 1,000.
-#[derive(Clone, Copy, Debug, PartialEq, Eq, PartialOrd, Ord, Hash)]
+#[derive(Clone, Copy, Debug, PartialEq, Eq)]
 pub struct PageSize {
     entries: u16,
 }
@@ -112,7 +112,7 @@ impl PageSize {
 }
 
 /// How many bytes a read asks for at most, from 1 to 65,536.
-#[derive(Clone, Copy, Debug, PartialEq, Eq, PartialOrd, Ord, Hash)]
+#[derive(Clone, Copy, Debug, PartialEq, Eq)]
 pub struct ReadLen {
     bytes: u32,
 }
@@ -143,6 +143,13 @@ impl ReadLen {
         } else {
             None
         }
+    }
+
+    /// The greatest read, of 65,536 bytes.
+    pub fn greatest() -> ReadLen
+        ensures { result ≡ 65536 }
+    {
+        ReadLen { bytes: 65536 }
     }
 
     /// The number of bytes.

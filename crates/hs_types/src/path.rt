@@ -1,9 +1,9 @@
 //! Paths, and texts that may become one.
-ghost use Rattle.std.specs.Prelude.{◌≡◌, true, Ok, ◌+◌, ◌<◌, ◌≤◌, ◌||◌, string_bytes, length, map, drop, count_by, sum_by, nat_lt, ◌-◌, IfOk, IfErr, IsTrue, not, ◌++◌};
+ghost use Rattle.std.specs.Prelude.{◌≡◌, true, Ok, ◌+◌, ◌<◌, ◌≤◌, ◌||◌, string_bytes, length, map, drop, count_by, sum_by, nat_lt, ◌-◌, IfOk, IfErr, OnOk, IsTrue, not, ◌++◌};
 ghost use Rattle.std.specs.Option.{SomeIff};
-ghost use Rattle.std.specs.List.{list_any, list_all, before_first, after_first, position_or_len, slice_split};
+ghost use Rattle.std.specs.List.{list_any, list_all, before_first, after_first, position_or_len, slice_split, flat_map};
 ghost use Rattle.hs_types.specs.Names.{is_snapshot_word, is_nul, is_name, is_slash};
-ghost use Rattle.hs_types.specs.Paths.{components, is_bad_component, is_bad_path, is_long_component, is_too_long, is_too_deep, counted, text_length, path_of, path_from, tail_at, IsFaultOf};
+ghost use Rattle.hs_types.specs.Paths.{components, is_bad_component, is_bad_path, is_long_component, is_too_long, is_too_deep, counted_parts, text_length, path_of, path_from, tail_at, component_text, path_text, IsPathFault};
 ghost use Rattle.hs_types.specs.declared.path.PathFault.TheVariants.{NoMemory as fault_no_memory};
 
 use crate::list::List;
@@ -14,7 +14,7 @@ use std::alloc::{AllocError, Global};
 use std::marker::Model;
 
 /// A text that was said as a path. It may be no path at all.
-#[derive(Debug, Drop, PartialEq, Eq, PartialOrd, Ord, Hash)]
+#[derive(Debug, Drop, PartialEq, Eq)]
 pub struct PathText {
     text: Text,
 }
@@ -45,6 +45,36 @@ impl PathText {
     {
         self.text.as_str()
     }
+
+    /// The text of the live path of these names.
+    pub fn of_names(alloc: Global, names: &[Name]) -> Result<PathText, NoMemory>
+        ensures { IfOk result (λ text. text ≡ path_text names.now) }
+    {
+        match names {
+            [] => Ok(PathText::new(String::from_str(alloc, "/")?)),
+            _ => Ok(PathText::new(components_text(alloc, names)?)),
+        }
+    }
+}
+
+/// These names, each with its slash before it.
+fn components_text(alloc: Global, names: &[Name]) -> Result<String, NoMemory>
+    ensures { IfOk result (λ text. string_bytes text ≡ flat_map component_text names.now) }
+{
+    let mut text = String::new(alloc);
+    for name in names {
+        push_component(&mut text, name)?;
+    }
+    Ok(text)
+}
+
+/// Adds a name, with its slash before it.
+fn push_component(text: &mut String, name: &Name) -> Result<(), NoMemory>
+    ensures { OnOk result (string_bytes text.new ≡ string_bytes text.old ++ component_text name.now) }
+{
+    text.push('/')?;
+    text.push_str(name.text())?;
+    Ok(())
 }
 
 impl Duplicate for PathText {
@@ -272,7 +302,7 @@ impl Path {
     /// Reads a text by the path rules. The faults are tested in the order `BadPath`, `TooLong`, `TooDeep`.
     pub fn read(alloc: Global, text: &PathText) -> Result<Path, PathFault>
         ensures path { IfOk result (λ path. path_of text.now ≡ Ok path) }
-        ensures fault { IfErr result (IsFaultOf (path_of text.now)) }
+        ensures fault { IfErr result (IsPathFault (path_of text.now)) }
     {
         let text = text.text();
         let all = parts_of(alloc, text)?;

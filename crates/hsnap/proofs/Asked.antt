@@ -3,15 +3,17 @@ use Rattle.std.proofs.Common.{◌≡◌, ◌≢◌, ℕ, Bool, true, false, not,
 use Rattle.std.specs.Option.{option_to_list}
 use Rattle.std.proofs.lemmas.List.{take_all}
 use Rattle.hs_types.specs.declared.call.Call.{Call}
-use Rattle.hs_types.specs.declared.call.Reply.{Reply}
-use Rattle.hs_types.specs.declared.call.Reply.TheVariants.{Made, Done, Bytes, Stat, Page, Refused, NoMemory}
-use Rattle.hs_types.specs.declared.call.Entry.{Entry}
-use Rattle.hs_types.specs.declared.call.Answered.{Answered}
-use Rattle.hs_plain.specs.Answer.{answer, claimed, is_modifying, uses_store, is_shared, is_ok_reply}
+use Rattle.hs_types.specs.declared.reply.Reply.{Reply}
+use Rattle.hs_types.specs.declared.reply.Reply.TheVariants.{Made, Done, SnapMade, Bytes, Stat, Page, Snaps, Dirs, Report, Refused, NoMemory}
+use Rattle.hs_types.specs.declared.journal.Entry.{Entry}
+use Rattle.hs_types.specs.declared.reply.Answered.{Answered}
+use Rattle.hs_plain.specs.Answer.{answer, claimed, is_modifying, uses_store, is_shared, is_ok_reply, is_store_fault, is_plain_reply, is_journal_full, origin_of}
+use Rattle.hs_plain.proofs.Answers.{answers_own}
+use Rattle.namenode_write.proofs.Grown.{machine_not_full}
 use Rattle.hs_plain.specs.Replay.{plain_after}
-use Rattle.hs_plain.specs.Legal.{IsLegalCall, leaves_entry, entry_of, entry_left, is_store_fault, is_plain_reply}
+use Rattle.hs_plain.specs.Legal.{IsLegalCall, leaves_entry, entry_of, entry_left}
 use Rattle.hsnap.specs.Run.{setup_caller}
-use Rattle.hsnap.proofs.Faultless.{shared_faultless}
+use Rattle.hsnap.proofs.Faultless.{answer_faultless}
 
 left_none : (fault modifying stored ok : Bool) → fault ≡ false → not (modifying || stored) ≡ true → (fault || (modifying && ok)) ≡ false
 left_none true modifying stored ok e shared = absurd (cc)
@@ -25,13 +27,17 @@ not_faulted Done right sure is = refl
 not_faulted (Bytes bytes next) right sure is = refl
 not_faulted (Stat id is_dir mode stamp size) right sure is = refl
 not_faulted (Page items next) right sure is = refl
+not_faulted (SnapMade id) right sure is = refl
+not_faulted (Snaps dir list) right sure is = refl
+not_faulted (Dirs list) right sure is = refl
+not_faulted (Report lines next) right sure is = refl
 not_faulted (Refused why) right sure is = ap is_store_fault (is (λ e. absurd (cc))) ∙ sure
 not_faulted NoMemory right sure is = refl
 
 -- the reply of a call beside others leaves no entry
 pub asked_none : (journal : List Entry) (call : Call) (reply : Reply) → is_shared call ≡ true → (reply ≢ NoMemory → reply ≡ answer (plain_after journal) call) → leaves_entry call reply ≡ false
 asked_none journal call reply shared right =
-    let sure : is_store_fault reply ≡ false = not_faulted reply (answer (plain_after journal) call) (shared_faultless (plain_after journal) call shared) right in
+    let sure : is_store_fault reply ≡ false = not_faulted reply (answer (plain_after journal) call) (answer_faultless (plain_after journal) call) right in
     left_none (is_store_fault reply) (is_modifying call) (uses_store call) (is_ok_reply reply) sure shared
 
 -- and a journal with what it leaves is as before
@@ -39,10 +45,24 @@ pub none_grows : (journal : List Entry) (seq : ℕ) (call : Call) (told : Answer
 none_grows journal seq call told none =
     sym (ap (λ b. journal ++ option_to_list (cond b (Some (entry_of setup_caller seq call told.reply)) None)) none ∙ append-nil journal)
 
-pub asked_legal : (tells : Bool) (journal : List Entry) (call : Call) (told : Answered) (seq : ℕ) → is_shared call ≡ true →
+-- nor does it say that the journal is full
+not_full : (reply right : Reply) → is_plain_reply right ≡ true → (reply ≢ NoMemory → reply ≡ right) → is_journal_full reply ≡ false
+not_full (Made id) right sure is = refl
+not_full Done right sure is = refl
+not_full (SnapMade id) right sure is = refl
+not_full (Bytes bytes next) right sure is = refl
+not_full (Stat id is_dir mode stamp size) right sure is = refl
+not_full (Page items next) right sure is = refl
+not_full (Snaps dir list) right sure is = refl
+not_full (Dirs list) right sure is = refl
+not_full (Report lines next) right sure is = refl
+not_full (Refused why) right sure is = machine_not_full (origin_of (Refused why)) (ap is_plain_reply (is (λ e. absurd (cc))) ∙ sure)
+not_full NoMemory right sure is = refl
+
+pub asked_legal : (tells : Bool) (most : ℕ) (journal : List Entry) (call : Call) (told : Answered) (seq : ℕ) → is_shared call ≡ true →
     told.position ≡ length journal → told.back ≡ Some call → (told.reply ≢ NoMemory → told.reply ≡ answer (plain_after journal) call) →
-    IsLegalCall tells journal setup_caller seq call told
-asked_legal tells journal call told seq shared place back right =
+    IsLegalCall tells most journal setup_caller seq call told
+asked_legal tells most journal call told seq shared place back right =
     let none : leaves_entry call told.reply ≡ false = asked_none journal call told.reply shared right in
     let all : take told.position journal ≡ journal = take_all told.position journal (omega (arith, place)) in
     record {
@@ -51,6 +71,7 @@ asked_legal tells journal call told seq shared place back right =
       entered = λ left. absurd (true_not_false (sym left ∙ none));
       kept = λ left. absurd (true_not_false (sym left ∙ none));
       handed_back = λ left. back;
+      full = λ is. absurd (true_not_false (sym is ∙ not_full told.reply (answer (plain_after journal) call) (answers_own (plain_after journal) call) right));
     }
   where
     true_not_false : true ≡ false → ⊥

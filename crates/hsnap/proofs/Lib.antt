@@ -10,3 +10,4 @@ pub mod ScriptWords
 pub mod Small
 pub mod TextModes
 pub mod Turns
+pub mod Served

@@ -6,19 +6,20 @@ use Rattle.std.proofs.lemmas.Bool.Decides.{nat_tests}
 use Rattle.std.proofs.lemmas.List.{map-append}
 use Rattle.std.proofs.Math.Seq.{take-append_seam}
 use Rattle.hs_types.specs.declared.call.Call.{Call}
-use Rattle.hs_types.specs.declared.call.Entry.{Entry}
-use Rattle.hs_types.specs.declared.call.Answered.{Answered}
+use Rattle.hs_types.specs.declared.journal.Entry.{Entry}
+use Rattle.hs_types.specs.declared.reply.Answered.{Answered}
 use Rattle.hs_types.specs.declared.call.ReadCursor.{ReadCursor}
-use Rattle.hs_types.specs.declared.call.Reply.{Reply}
-use Rattle.hs_types.specs.declared.call.Reply.TheVariants.{Made, Done, Bytes, Stat, Page, Refused, NoMemory}
-use Rattle.hs_plain.specs.Answer.{answer, claimed, blanked, is_modifying, is_ok_reply}
+use Rattle.hs_types.specs.declared.reply.Reply.{Reply}
+use Rattle.hs_types.specs.declared.reply.Reply.TheVariants.{Made, Done, SnapMade, Bytes, Stat, Page, Snaps, Dirs, Report, Refused, NoMemory}
+use Rattle.hs_plain.specs.Answer.{answer, claimed, blanked, is_modifying, is_ok_reply, is_store_fault, is_plain_reply}
 use Rattle.hs_plain.specs.Replay.{plain_after}
-use Rattle.hs_plain.specs.Legal.{Said, IsLegalCall, entry_of, entry_left, leaves_entry, is_store_fault, is_plain_reply}
+use Rattle.hs_plain.specs.Legal.{Said, IsLegalCall, entry_of, entry_left, leaves_entry}
 use Rattle.hsnap.specs.Pages.{has_greatest_page}
 use Rattle.hsnap.specs.Run.{setup_caller, goes_on, next_of, next_call, AreFurther, AreOfLine}
 use Rattle.hsnap.specs.Turn.{AreMade, AreFurtherTo, AreOfLineTo, IsNext, IsWithin, entries_with, IsLineTo, IsLineRun}
 use Rattle.hsnap.proofs.Both.{both_first}
 use Rattle.hsnap.proofs.Ends.{answer_agrees, change_ends, answer_falls, left, left_of, left_some}
+use Rattle.hsnap.proofs.Served.{greatest_served}
 use Rattle.hsnap.proofs.Small.{journal_small}
 use Rattle.hsnap.proofs.Turns.{made_append, made_none}
 
@@ -30,6 +31,10 @@ next_blanked Done = refl
 next_blanked (Bytes bytes next) = refl
 next_blanked (Stat id is_dir mode stamp size) = refl
 next_blanked (Page items next) = refl
+next_blanked (SnapMade id) = refl
+next_blanked (Snaps dir list) = refl
+next_blanked (Dirs list) = refl
+next_blanked (Report lines next) = refl
 next_blanked (Refused why) = refl
 next_blanked NoMemory = refl
 
@@ -39,6 +44,10 @@ goes_blanked Done = refl
 goes_blanked (Bytes bytes next) = refl
 goes_blanked (Stat id is_dir mode stamp size) = refl
 goes_blanked (Page items next) = refl
+goes_blanked (SnapMade id) = refl
+goes_blanked (Snaps dir list) = refl
+goes_blanked (Dirs list) = refl
+goes_blanked (Report lines next) = refl
 goes_blanked (Refused why) = refl
 goes_blanked NoMemory = refl
 
@@ -58,6 +67,10 @@ none_behind Done is = absurd (cc)
 none_behind (Bytes bytes next) is = absurd (cc)
 none_behind (Stat id is_dir mode stamp size) is = absurd (cc)
 none_behind (Page items next) is = absurd (cc)
+none_behind (SnapMade id) is = absurd (cc)
+none_behind (Snaps dir list) is = absurd (cc)
+none_behind (Dirs list) is = absurd (cc)
+none_behind (Report lines next) is = absurd (cc)
 none_behind (Refused why) is = refl
 none_behind NoMemory is = refl
 
@@ -67,6 +80,10 @@ ends_there Done is = absurd (cc)
 ends_there (Bytes bytes next) is = absurd (cc)
 ends_there (Stat id is_dir mode stamp size) is = absurd (cc)
 ends_there (Page items next) is = absurd (cc)
+ends_there (SnapMade id) is = absurd (cc)
+ends_there (Snaps dir list) is = absurd (cc)
+ends_there (Dirs list) is = absurd (cc)
+ends_there (Report lines next) is = absurd (cc)
 ends_there (Refused why) is = refl
 ends_there NoMemory is = refl
 
@@ -81,6 +98,10 @@ next_greatest Done = tt
 next_greatest (Bytes bytes next) = next_of_greatest next
 next_greatest (Stat id is_dir mode stamp size) = tt
 next_greatest (Page items next) = tt
+next_greatest (SnapMade id) = tt
+next_greatest (Snaps dir list) = tt
+next_greatest (Dirs list) = tt
+next_greatest (Report lines next) = tt
 next_greatest (Refused why) = tt
 next_greatest NoMemory = tt
 
@@ -90,6 +111,10 @@ next_no_fault Done call is = refl
 next_no_fault (Bytes bytes next) call is = refl
 next_no_fault (Stat id is_dir mode stamp size) call is = refl
 next_no_fault (Page items next) call is = refl
+next_no_fault (SnapMade id) call is = refl
+next_no_fault (Snaps dir list) call is = refl
+next_no_fault (Dirs list) call is = refl
+next_no_fault (Report lines next) call is = refl
 next_no_fault (Refused why) call is = absurd (cc)
 next_no_fault NoMemory call is = refl
 
@@ -130,14 +155,14 @@ module _ (tells : Bool) (old new : List Entry) (from to : ℕ) (said : Said) (ma
   agrees short greatest = by (is_plain_reply said.told.reply) refl
     where
       by : (b : Bool) → is_plain_reply said.told.reply ≡ b → goes_on said.told.reply ≡ is_some (next_call said.told.reply)
-      by true is = goes_right is ∙ answer_agrees (plain_after old) (journal_small old short) said.call greatest ∙ sym (ap is_some (next_right is))
+      by true is = goes_right is ∙ answer_agrees (plain_after old) (journal_small old short) said.call (greatest_served said.call greatest) greatest ∙ sym (ap is_some (next_right is))
       by false is = ends_there said.told.reply is ∙ sym (ap is_some (none_behind said.told.reply is))
 
   pub falls : has_greatest_page said.call ≡ true → IsWithin (next_call said.told.reply) → left (next_call said.told.reply) < left_of said.call
   falls greatest within = by (is_plain_reply said.told.reply) refl
     where
       by : (b : Bool) → is_plain_reply said.told.reply ≡ b → left (next_call said.told.reply) < left_of said.call
-      by true is = subst (λ next. left next < left_of said.call) (sym (next_right is)) (answer_falls (plain_after old) said.call greatest (subst IsWithin (next_right is) within))
+      by true is = subst (λ next. left next < left_of said.call) (sym (next_right is)) (answer_falls (plain_after old) said.call (greatest_served said.call greatest) greatest (subst IsWithin (next_right is) within))
       by false is = subst (λ next. left next < left_of said.call) (sym (none_behind said.told.reply is)) (left_some said.call)
 
   change_last : is_modifying said.call ≡ true → next_call said.told.reply ≡ None

@@ -9,10 +9,11 @@ use Rattle.std.proofs.lemmas.List.Elements.{filter_map-append}
 use Rattle.hs_types.specs.declared.ids.CallerId.{CallerId}
 use Rattle.hs_types.specs.declared.ids.Side.TheVariants.{Source}
 use Rattle.hs_types.specs.declared.call.Call.{Call}
-use Rattle.hs_types.specs.declared.call.Entry.{Entry}
-use Rattle.hs_types.specs.declared.call.Answered.{Answered}
-use Rattle.hs_plain.specs.Answer.{answer, claimed}
+use Rattle.hs_types.specs.declared.journal.Entry.{Entry}
+use Rattle.hs_types.specs.declared.reply.Answered.{Answered}
+use Rattle.hs_plain.specs.Answer.{answer, claimed, is_ok_reply}
 use Rattle.hs_plain.specs.Replay.{plain_after, is_proper}
+use Rattle.hs_types.specs.Limits.{journal_limit}
 use Rattle.hs_plain.specs.Legal.{Said, IsLegalCall, is_caller, entry_of, entry_left, leaves_entry, reach_of, numbers_rise, places_rise}
 use Rattle.hsnap.specs.declared.ran.LogItem.{LogItem}
 use Rattle.hsnap.specs.declared.ran.LogWhat.TheVariants.{Replies}
@@ -34,7 +35,7 @@ slice_get-front [] ys i x e = absurd (cc)
 slice_get-front (a ∷ xs) ys zero x e = e
 slice_get-front (a ∷ xs) ys (suc i) x e = slice_get-front xs ys i x e
 
-legal_grows : (tells : Bool) (journal more : List Entry) (caller : CallerId) (seq : ℕ) (call : Call) (told : Answered) → IsLegalCall tells journal caller seq call told → IsLegalCall tells (journal ++ more) caller seq call told
+legal_grows : (tells : Bool) (journal more : List Entry) (caller : CallerId) (seq : ℕ) (call : Call) (told : Answered) → IsLegalCall tells journal_limit journal caller seq call told → IsLegalCall tells journal_limit (journal ++ more) caller seq call told
 legal_grows tells journal more caller seq call told legal =
     record {
       within = omega (arith, length-append journal more, legal.within);
@@ -42,9 +43,16 @@ legal_grows tells journal more caller seq call told legal =
       entered = λ left. slice_get-front journal more told.position (entry_of caller seq call told.reply) (legal.entered left);
       kept = legal.kept;
       handed_back = legal.handed_back;
+      full = λ is.
+          let was = legal.full is in
+          record {
+            exclusive = was.exclusive;
+            would_do = ap (λ (entries : List Entry). is_ok_reply (answer (plain_after entries) call)) (take-append-le told.position journal more legal.within) ∙ was.would_do;
+            at_limit = was.at_limit;
+          };
     }
 
-all_grow : (tells : Bool) (journal more : List Entry) (said : List Said) → AllByRecursion (λ s. IsLegalCall tells journal setup_caller s.seq s.call s.told) said → AllByRecursion (λ s. IsLegalCall tells (journal ++ more) setup_caller s.seq s.call s.told) said
+all_grow : (tells : Bool) (journal more : List Entry) (said : List Said) → AllByRecursion (λ s. IsLegalCall tells journal_limit journal setup_caller s.seq s.call s.told) said → AllByRecursion (λ s. IsLegalCall tells journal_limit (journal ++ more) setup_caller s.seq s.call s.told) said
 all_grow tells journal more [] all = tt
 all_grow tells journal more (s ∷ said) all = (legal_grows tells journal more setup_caller s.seq s.call s.told all.0, all_grow tells journal more said all.1)
 
@@ -92,8 +100,8 @@ pub made_append : (tells : Bool) (old now new : List Entry) (from here to : ℕ)
 made_append tells old now new from here to said more before after =
     record {
       each =
-          all_append (λ s. IsLegalCall tells new setup_caller s.seq s.call s.told) said more
-          (subst (λ (j : List Entry). AllByRecursion (λ s. IsLegalCall tells j setup_caller s.seq s.call s.told) said) (sym after.grows) (all_grow tells now (left_by more) said before.each))
+          all_append (λ s. IsLegalCall tells journal_limit new setup_caller s.seq s.call s.told) said more
+          (subst (λ (j : List Entry). AllByRecursion (λ s. IsLegalCall tells journal_limit j setup_caller s.seq s.call s.told) said) (sym after.grows) (all_grow tells now (left_by more) said before.each))
           after.each;
       numbers = counted-append from said more before.numbers (ap (λ n. counted n more) before.last ∙ after.numbers);
       last = last_number-append from said more ∙ ap (λ n. last_number n more) before.last ∙ after.last;
@@ -106,7 +114,7 @@ made_append tells old now new from here to said more before after =
 
 -- one call
 pub made_one : (tells : Bool) (old new : List Entry) (from : ℕ) (said : Said) → said.seq ≡ min (from + 1) (2 ^ 64 - 1) →
-    IsLegalCall tells new setup_caller said.seq said.call said.told → said.told.position ≡ length old →
+    IsLegalCall tells journal_limit new setup_caller said.seq said.call said.told → said.told.position ≡ length old →
     new ≡ old ++ option_to_list (entry_left setup_caller said) → AreMade tells old from new said.seq (said ∷ [])
 made_one tells old new from said number legal place grows =
     record {

@@ -1,6 +1,6 @@
 -- Why no script was read.
 use Rattle.std.specs.Prelude.{ℕ, List, Option}
-use Rattle.hs_io.specs.Faults.{Rose}
+use Rattle.hs_types.specs.Faults.{Rose}
 use Rattle.hsnap.specs.declared.ran.Status.{Status}
 use Rattle.hsnap.specs.declared.ran.Status.TheVariants as status
 use Rattle.hsnap.specs.Serial.{IsNoScript, IsTooLarge}

@@ -5,12 +5,13 @@ use Rattle.hs_types.specs.declared.ids.CallerId.{CallerId}
 use Rattle.hs_types.specs.declared.ids.Side.TheVariants.{Source}
 use Rattle.hs_types.specs.declared.call.Call.{Call}
 use Rattle.hs_types.specs.declared.call.Call.TheVariants as calls
-use Rattle.hs_types.specs.declared.call.Reply.{Reply}
-use Rattle.hs_types.specs.declared.call.Reply.TheVariants.{Made, Done, Bytes, Stat, Page, Refused, NoMemory}
+use Rattle.hs_types.specs.declared.reply.Reply.{Reply}
+use Rattle.hs_types.specs.declared.reply.Reply.TheVariants.{Made, Done, SnapMade, Bytes, Stat, Page, Snaps, Dirs, Report, Refused, NoMemory}
 use Rattle.hs_types.specs.declared.call.ReadCursor.{ReadCursor}
-use Rattle.hs_types.specs.declared.call.Entry.{Entry}
-use Rattle.hs_types.specs.declared.call.Answered.{Answered}
+use Rattle.hs_types.specs.declared.journal.Entry.{Entry}
+use Rattle.hs_types.specs.declared.reply.Answered.{Answered}
 use Rattle.hs_plain.specs.Replay.{plain_after, is_proper}
+use Rattle.hs_types.specs.Limits.{journal_limit}
 use Rattle.hs_plain.specs.Legal.{Said, AreLegalCalls, is_caller, reach_of}
 use Rattle.hs_plain.specs.Lines.{tree_lines}
 use Rattle.hsnap.specs.declared.ran.Ran.{Ran}
@@ -44,6 +45,10 @@ goes_on Done = false
 goes_on (Bytes bytes next) = is_some next
 goes_on (Stat id is_dir mode stamp size) = false
 goes_on (Page items next) = is_some next
+goes_on (SnapMade id) = false
+goes_on (Snaps dir list) = false
+goes_on (Dirs list) = false
+goes_on (Report lines next) = is_some next
 goes_on (Refused why) = false
 goes_on NoMemory = false
 
@@ -58,6 +63,10 @@ next_call Done = None
 next_call (Bytes bytes next) = next_of next
 next_call (Stat id is_dir mode stamp size) = None
 next_call (Page items next) = None
+next_call (SnapMade id) = None
+next_call (Snaps dir list) = None
+next_call (Dirs list) = None
+next_call (Report lines next) = None
 next_call (Refused why) = None
 next_call NoMemory = None
 
@@ -90,7 +99,7 @@ in_turn entries (said ∷ more) = said.told.position == entries && in_turn (reac
 -- a namenode's one history: what setup's caller was told is legal in it, and no other has an entry
 pub record IsHistory (tells : Bool) (journal : List Entry) (said : List Said) : Type 0 where
   pub proper : is_proper journal ≡ true
-  pub legal : AreLegalCalls tells journal setup_caller said
+  pub legal : AreLegalCalls tells journal_limit journal setup_caller said
   pub alone : list_all (is_caller setup_caller) journal ≡ true
 
 -- what is shown at the end is the state that the journal stands for

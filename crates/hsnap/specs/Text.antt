@@ -5,14 +5,16 @@ use Rattle.std.specs.Fmt.{decimal}
 use Rattle.hs_types.specs.Refusals.{number_of, refusal_name}
 use Rattle.hs_types.specs.declared.ids.Side.{Side}
 use Rattle.hs_types.specs.declared.ids.Side.TheVariants.{Source, Target}
-use Rattle.hs_types.specs.declared.call.Reply.{Reply}
-use Rattle.hs_types.specs.declared.call.Reply.TheVariants.{Made, Done, Bytes, Stat, Page, Refused, NoMemory}
-use Rattle.hs_types.specs.declared.call.Item.{Item}
-use Rattle.hs_types.specs.declared.call.Answered.{Answered}
-use Rattle.hs_types.specs.declared.call.EntryKind.{EntryKind}
-use Rattle.hs_types.specs.declared.call.EntryKind.TheVariants.{Accepted, Faulted}
-use Rattle.hs_types.specs.declared.call.Entry.{Entry}
-use Rattle.hs_types.specs.declared.call.TreeLine.{TreeLine}
+use Rattle.hs_types.specs.declared.reply.Reply.{Reply}
+use Rattle.hs_types.specs.declared.reply.Reply.TheVariants.{Made, Done, SnapMade, Bytes, Stat, Page, Snaps, Dirs, Report, Refused, NoMemory}
+use Rattle.hs_types.specs.declared.refusal.Refusal.{Refusal}
+use Rattle.hs_types.specs.declared.refusal.Refusal.TheVariants.{Moved}
+use Rattle.hs_types.specs.declared.reply.Item.{Item}
+use Rattle.hs_types.specs.declared.reply.Answered.{Answered}
+use Rattle.hs_types.specs.declared.journal.EntryKind.{EntryKind}
+use Rattle.hs_types.specs.declared.journal.EntryKind.TheVariants.{Accepted, Faulted}
+use Rattle.hs_types.specs.declared.journal.Entry.{Entry}
+use Rattle.hs_types.specs.declared.shown.TreeLine.{TreeLine}
 use Rattle.hsnap.specs.declared.ran.Ran.{Ran}
 use Rattle.hsnap.specs.declared.ran.ClientLog.{ClientLog}
 use Rattle.hsnap.specs.declared.ran.Section.{Section}
@@ -37,6 +39,11 @@ abbrev pub more_or_end : {X : Type 0} → Option X → List ℕ
 more_or_end None = codes "end"
 more_or_end (Some cursor) = codes "more"
 
+-- the name of a refusal; Moved is followed by its two ticks
+abbrev pub why_words : Refusal → List (List ℕ)
+why_words (Moved begun reached) = refusal_name (Moved begun reached) ∷ decimal begun ∷ decimal reached ∷ []
+why_words why = refusal_name why ∷ []
+
 -- a reply, without what it lists
 abbrev pub reply_text : Reply → List ℕ
 reply_text (Made id) = spaced (codes "made" ∷ decimal id.0 ∷ [])
@@ -44,20 +51,28 @@ reply_text Done = codes "done"
 reply_text (Bytes bytes next) = spaced (codes "bytes" ∷ decimal (length bytes) ∷ more_or_end next ∷ shown bytes)
 reply_text (Stat id is_dir mode stamp size) = spaced (kind_word is_dir ∷ decimal id.0 ∷ mode_text mode ∷ decimal stamp ∷ decimal size ∷ [])
 reply_text (Page items next) = spaced (codes "page" ∷ decimal (length items) ∷ more_or_end next ∷ [])
-reply_text (Refused why) = spaced (codes "refused" ∷ decimal (number_of why) ∷ refusal_name why ∷ [])
+reply_text (SnapMade id) = spaced (codes "snap" ∷ decimal id.0 ∷ [])
+reply_text (Snaps dir list) = spaced (codes "snaps" ∷ decimal (length list) ∷ [])
+reply_text (Dirs list) = spaced (codes "dirs" ∷ decimal (length list) ∷ [])
+reply_text (Report lines next) = spaced (codes "report" ∷ decimal (length lines) ∷ more_or_end next ∷ [])
+reply_text (Refused why) = spaced (codes "refused" ∷ decimal (number_of why) ∷ why_words why)
 reply_text NoMemory = codes "no memory"
 
 -- an item of a listing
 abbrev pub item_text : Item → List ℕ
 item_text item = spaced (kind_word item.is_dir ∷ decimal item.id.0 ∷ escaped item.name ∷ [])
 
--- what a reply lists, a line each
+-- what a reply lists, a line each; no call that is served lists snapshots, directories or lines of a report
 abbrev pub further_lines : Reply → List (List ℕ)
 further_lines (Made id) = []
 further_lines Done = []
 further_lines (Bytes bytes next) = []
 further_lines (Stat id is_dir mode stamp size) = []
 further_lines (Page items next) = map item_text items
+further_lines (SnapMade id) = []
+further_lines (Snaps dir list) = []
+further_lines (Dirs list) = []
+further_lines (Report lines next) = []
 further_lines (Refused why) = []
 further_lines NoMemory = []
 

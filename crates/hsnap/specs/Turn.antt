@@ -3,9 +3,10 @@ use Rattle.std.specs.Prelude.{◌≡◌, ℕ, ◌+◌, ◌-◌, ◌^◌, ◌<◌
 use Rattle.std.specs.List.{filter_map, AllByRecursion}
 use Rattle.hs_types.specs.declared.call.Call.{Call}
 use Rattle.hs_types.specs.declared.call.Call.TheVariants as calls
-use Rattle.hs_types.specs.declared.call.Reply.{Reply}
-use Rattle.hs_types.specs.declared.call.Entry.{Entry}
-use Rattle.hs_types.specs.declared.call.Answered.{Answered}
+use Rattle.hs_types.specs.declared.reply.Reply.{Reply}
+use Rattle.hs_types.specs.declared.journal.Entry.{Entry}
+use Rattle.hs_types.specs.declared.reply.Answered.{Answered}
+use Rattle.hs_types.specs.Limits.{journal_limit}
 use Rattle.hs_plain.specs.Legal.{Said, IsLegalCall, entry_left}
 use Rattle.hsnap.specs.declared.ran.LogItem.{LogItem}
 use Rattle.hsnap.specs.Run.{setup_caller, items_from, goes_on, next_call, AreOfLine, AreOfScript, in_order, in_turn}
@@ -23,7 +24,7 @@ last_number seq (said ∷ more) = last_number said.seq more
 
 -- these calls were made in turn, and led from one journal and number to others
 pub record AreMade (tells : Bool) (old : List Entry) (from : ℕ) (new : List Entry) (to : ℕ) (said : List Said) : Type 0 where
-  pub each : AllByRecursion (λ s. IsLegalCall tells new setup_caller s.seq s.call s.told) said
+  pub each : AllByRecursion (λ s. IsLegalCall tells journal_limit new setup_caller s.seq s.call s.told) said
   pub numbers : counted from said ≡ true
   pub last : last_number from said ≡ to
   pub turn : in_turn (length old) said ≡ true

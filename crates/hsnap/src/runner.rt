@@ -3,6 +3,8 @@ ghost use Rattle.std.specs.Prelude.{◌≡◌, ◌<◌, ◌≤◌, ◌+◌, ◌+
 ghost use Rattle.std.specs.Option.{option_to_list};
 ghost use Rattle.std.specs.List.{list_all};
 ghost use Rattle.hs_plain.specs.Answer.{is_shared};
+ghost use Rattle.hs_types.specs.Limits.{journal_limit};
+ghost use Rattle.hs_plain.specs.Served.{is_served};
 ghost use Rattle.hs_plain.specs.Legal.{IsLegalCall, entry_left, leaves_entry};
 ghost use Rattle.hs_types.specs.declared.call.Call.TheVariants as calls;
 ghost use Rattle.hsnap.specs.declared.ran.LogWhat.TheVariants.{Replies};
@@ -26,7 +28,8 @@ const SETUP: CallerId = CallerId(0);
 /// Answers a call that changes nothing and uses no store, and hands it back.
 fn ask<B: BlockStore>(alloc: Global, namenode: &Namenode<B>, call: Call) -> Answered
     requires shared { is_shared call ≡ true }
-    ensures legal { (tells : Bool) (seq : ℕ) → IsLegalCall tells namenode.now.entries setup_caller seq call result }
+    requires served { is_served call ≡ true }
+    ensures legal { (tells : Bool) (seq : ℕ) → IsLegalCall tells journal_limit namenode.now.entries setup_caller seq call result }
     ensures place { result.position ≡ length namenode.now.entries }
     ensures none { leaves_entry call result.reply ≡ false }
 {
@@ -45,7 +48,8 @@ fn make_call<B: BlockStore>(
     seq: u64,
     call: Call,
 ) -> Answered
-    ensures legal { IsLegalCall (is_some (B.blocks namenode.new.store)) namenode.new.entries setup_caller seq call result }
+    requires { is_served call ≡ true }
+    ensures legal { IsLegalCall (is_some (B.blocks namenode.new.store)) journal_limit namenode.new.entries setup_caller seq call result }
     ensures place { result.position ≡ length namenode.old.entries }
     ensures appended { namenode.new.entries ≡ namenode.old.entries ++ option_to_list (entry_left setup_caller (record { seq = seq; call = call; told = result })) }
     ensures tells { is_some (B.blocks namenode.new.store) ≡ is_some (B.blocks namenode.old.store) }
@@ -64,6 +68,7 @@ fn make_next<B: BlockStore>(
     seq: &mut u64,
     call: Call,
 ) -> Answered
+    requires { is_served call ≡ true }
     ensures made { AreMade (is_some (B.blocks namenode.new.store)) namenode.old.entries seq.old namenode.new.entries seq.new (record { seq = seq.new; call = call; told = result } ∷ []) }
     ensures tells { is_some (B.blocks namenode.new.store) ≡ is_some (B.blocks namenode.old.store) }
 {
@@ -97,6 +102,10 @@ fn next_call(reply: &Reply) -> Option<Call>
         | Reply::Done
         | Reply::Stat { .. }
         | Reply::Page { .. }
+        | Reply::SnapMade { .. }
+        | Reply::Snaps { .. }
+        | Reply::Dirs { .. }
+        | Reply::Report { .. }
         | Reply::Refused(_)
         | Reply::NoMemory => None,
     }

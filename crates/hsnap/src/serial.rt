@@ -2,7 +2,7 @@
 ghost use Rattle.std.specs.Prelude.{◌≡◌, ◌≤◌, ◌↔◌, true, false, List, [], ℕ, Option, Some, is_some, length, IfOk, IfErr, IfSome, OnOk, OnErr};
 ghost use Rattle.std.specs.List.{list_all};
 ghost use Rattle.hs_io.specs.Bytes.{Takes};
-ghost use Rattle.hs_io.specs.Faults.{Rose};
+ghost use Rattle.hs_types.specs.Faults.{Rose};
 ghost use Rattle.hsnap.specs.Script.{script_of};
 ghost use Rattle.hsnap.specs.Run.{IsRun};
 ghost use Rattle.hsnap.specs.Text.{text_of as plain_text_of};

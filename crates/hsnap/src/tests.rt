@@ -1,109 +1,421 @@
-//! The top call over ends and stores in memory.
-ghost use Rattle.std.specs.Prelude.{◌≡◌, [], IfSome};
-
-use crate::ran::{FaultKind, Ran, Status};
+//! Scripts, and what the program writes: rows of text through one driver, over ends and stores in memory.
+use crate::ran::Status;
 use crate::serial::serial;
-use block_store::{BlockStore, MemBlocks, SteadyBlocks};
+use block_store::MemBlocks;
 use hs_io::{MemSink, MemSource};
-use hs_types::{List, NameText};
-use std::alloc::{AllocError, Global};
+use hs_types::{List, NameText, NoMemory};
+use std::alloc::Global;
 use std::test::Fail;
 
-/// A call of the program over ends in memory, of which the calls with these numbers fail, and over two stores: the run,
-/// and what was written.
-fn called_over<B: BlockStore>(
-    alloc: Global,
-    words: &[&str],
-    input: &[u8],
-    reads: &[u64],
-    writes: &[u64],
-    source_blocks: B,
-    target_blocks: B,
-) -> Result<(Ran, Vec<u8>), AllocError>
-    requires source_empty { IfSome (B.blocks source_blocks) (λ map. map ≡ []) }
-    requires target_empty { IfSome (B.blocks target_blocks) (λ map. map ≡ []) }
-{
-    let mut texts = Vec::new(alloc);
-    for word in words {
-        texts.push(NameText::new(String::from_str(alloc, word)?))?;
+// ---- texts
+
+/// Writes what is repeated, with its number behind a star.
+fn write_repeated(out: &mut String, repeated: &str) -> Result<(), NoMemory> {
+    let (part, times) = repeated.split_once('*').unwrap_or((repeated, ""));
+    for _ in 0..times.parse::<u32>().unwrap_or(1) {
+        out.push_str(part)?;
     }
-    let words = List::of(texts);
-    let bytes = List::of(Vec::from_slice(alloc, input)?);
-    let mut source = MemSource::new(alloc, bytes, List::of(Vec::from_slice(alloc, reads)?));
-    let mut sink = MemSink::new(alloc, List::of(Vec::from_slice(alloc, writes)?));
-    let ran = serial(
-        alloc,
-        &words,
-        &mut source,
-        &mut sink,
-        source_blocks,
-        target_blocks,
-    );
-    let written = Vec::from_slice(alloc, sink.written().items())?;
-    Ok((ran, written))
+    Ok(())
 }
 
-/// A call of the program over stores that never fail.
-fn called(
+/// Writes a piece of a row, which begins with what is repeated.
+fn write_piece(out: &mut String, piece: &str) -> Result<(), NoMemory> {
+    let (repeated, rest) = piece.split_once('}').unwrap_or(("", piece));
+    write_repeated(out, repeated)?;
+    out.push_str(rest)?;
+    Ok(())
+}
+
+/// The text of a row, in which `{/a*3}` stands for `/a/a/a`.
+fn text_of(alloc: Global, row: &str) -> Result<String, NoMemory> {
+    let mut out = String::new(alloc);
+    for piece in row.split('{') {
+        write_piece(&mut out, piece)?;
+    }
+    Ok(out)
+}
+
+// ---- one run
+
+/// The call of each end that fails, from 1, or 0: of the source, of the sink, and of the store of the source side.
+type Fails = [u64; 3];
+
+const NONE: Fails = [0, 0, 0];
+
+fn one(alloc: Global, number: u64) -> Result<List<u64>, NoMemory> {
+    Ok(List::of(Vec::from_slice(alloc, &[number])?))
+}
+
+fn push_word(alloc: Global, words: &mut List<NameText>, word: &str) -> Result<(), NoMemory> {
+    words.push(NameText::new(String::from_str(alloc, word)?))
+}
+
+fn words_of(alloc: Global, texts: &[&str]) -> Result<List<NameText>, NoMemory> {
+    let mut words = List::new(alloc);
+    for text in texts {
+        push_word(alloc, &mut words, text)?;
+    }
+    Ok(words)
+}
+
+fn bytes_of(alloc: Global, script: &str) -> Result<List<u8>, NoMemory> {
+    Ok(List::of(text_of(alloc, script)?.into_bytes()))
+}
+
+fn source_of(alloc: Global, bytes: List<u8>, fails: u64) -> Result<MemSource, NoMemory> {
+    Ok(MemSource::new(alloc, bytes, one(alloc, fails)?))
+}
+
+fn status_over(
+    alloc: Global,
+    words: &List<NameText>,
+    source: &mut MemSource,
+    sink: &mut MemSink,
+    fails: u64,
+) -> Result<Status, NoMemory> {
+    let blocks = MemBlocks::new(alloc, one(alloc, fails)?);
+    let others = MemBlocks::new(alloc, List::new(alloc));
+    Ok(serial(alloc, words, source, sink, blocks, others).status)
+}
+
+fn status_from(
+    alloc: Global,
+    words: &List<NameText>,
+    script: &str,
+    sink: &mut MemSink,
+    fails: Fails,
+) -> Result<Status, NoMemory> {
+    let mut source = source_of(alloc, bytes_of(alloc, script)?, fails[0])?;
+    status_over(alloc, words, &mut source, sink, fails[2])
+}
+
+fn status_of(
     alloc: Global,
     words: &[&str],
-    input: &[u8],
-    reads: &[u64],
-    writes: &[u64],
-) -> Result<(Ran, Vec<u8>), AllocError> {
-    let source_blocks = SteadyBlocks::new(alloc);
-    let target_blocks = SteadyBlocks::new(alloc);
-    called_over(
-        alloc,
-        words,
-        input,
-        reads,
-        writes,
-        source_blocks,
-        target_blocks,
-    )
+    script: &str,
+    sink: &mut MemSink,
+    fails: Fails,
+) -> Result<Status, NoMemory> {
+    let words = words_of(alloc, words)?;
+    status_from(alloc, &words, script, sink, fails)
 }
 
-/// What a script writes over a source store of which the calls with these numbers fail.
-fn written_over(alloc: Global, input: &[u8], fails: &[u64]) -> Result<Vec<u8>, AllocError> {
-    let source_blocks = MemBlocks::new(alloc, List::of(Vec::from_slice(alloc, fails)?));
-    let target_blocks = MemBlocks::new(alloc, List::new(alloc));
-    let (_, written) = called_over(
-        alloc,
-        &["serial"],
-        input,
-        &[],
-        &[],
-        source_blocks,
-        target_blocks,
-    )?;
-    Ok(written)
+fn write_status(out: &mut String, status: Status) -> Result<(), NoMemory> {
+    match status {
+        Status::Script { line, kind } => writeln!(out, "Script {line} {kind:?}")?,
+        _ => writeln!(out, "{status:?}")?,
+    }
+    Ok(())
 }
 
-const SMALLEST: &[u8] = b"s mkdir /a\ns ls /\n";
+/// Writes a status and what the program wrote, with a point behind it.
+fn write_end(out: &mut String, status: Status, written: &[u8]) -> Result<(), NoMemory> {
+    write_status(out, status)?;
+    out.push_str(str::from_utf8(written).unwrap_or("?"))?;
+    out.push_str(".")?;
+    Ok(())
+}
 
-const SMALLEST_TEXT: &str =
-    "setup\n1 s@0 made 2\n2 s@1 page 1 end\n  dir 2 a\nfinish\njournal s 1\n0 0.1 mkdir /a\njournal t 0\ntree s 2\n0 dir 1 0755 1 /\n1 dir 2 0755 1 a\ntree t 1\n0 dir 1 0755 0 /\n";
+fn write_run(
+    alloc: Global,
+    words: &[&str],
+    script: &str,
+    fails: Fails,
+    out: &mut String,
+) -> Result<(), NoMemory> {
+    let mut sink = MemSink::new(alloc, one(alloc, fails[1])?);
+    let status = status_of(alloc, words, script, &mut sink, fails)?;
+    write_end(out, status, sink.written().items())
+}
 
-const EMPTY_TEXT: &str =
-    "setup\nfinish\njournal s 0\njournal t 0\ntree s 1\n0 dir 1 0755 0 /\ntree t 1\n0 dir 1 0755 0 /\n";
+fn begins_with(alloc: Global, out: &str, row: &str) -> Result<bool, NoMemory> {
+    let text = text_of(alloc, row)?;
+    Ok(out.starts_with(text.as_str()))
+}
+
+/// Whether a run of the program begins with this text: its status, what it wrote, and a point.
+fn gives(
+    alloc: Global,
+    words: &[&str],
+    fails: Fails,
+    script: &str,
+    text: &str,
+) -> Result<bool, NoMemory> {
+    let mut out = String::new(alloc);
+    write_run(alloc, words, script, fails, &mut out)?;
+    begins_with(alloc, out.as_str(), text)
+}
+
+// ---- rows
+
+/// Scripts, and what they print.
+const RUNS: [(&str, &str); 5] = [
+    (
+        "",
+        "Ok\nsetup\n\
+        finish\n\
+        journal s 0\n\
+        journal t 0\n\
+        tree s 1\n\
+        0 dir 1 0755 0 /\n\
+        tree t 1\n\
+        0 dir 1 0755 0 /\n\
+        .",
+    ),
+    // Each command, of which the reading ones leave no entry.
+    (
+        "s mkdir /d\n\
+        s create /d/f\n\
+        s append /d/f ab\n\
+        s append /d/f cd\n\
+        s cat /d/f\n\
+        s createover /d/f\n\
+        s cat /d/f\n\
+        s chmod /d/f 7\n\
+        s mkdir /e\n\
+        s mv /d/f /e/g\n\
+        s stat /e/g\n\
+        s stat /d\n\
+        s ls /e\n\
+        s rm /d\n\
+        s create /e/f\n\
+        s append /e/f abc\n\
+        s mkdir /h\n\
+        s rmr /h\n",
+        "Ok\nsetup\n\
+        1 s@0 made 2\n\
+        2 s@1 made 3\n\
+        3 s@2 done\n\
+        4 s@3 done\n\
+        5 s@4 bytes 4 end abcd\n\
+        6 s@4 made 4\n\
+        7 s@5 bytes 0 end\n\
+        8 s@5 done\n\
+        9 s@6 made 5\n\
+        10 s@7 done\n\
+        11 s@8 file 4 0007 6 0\n\
+        12 s@8 dir 2 0755 8 0\n\
+        13 s@8 page 1 end\n  file 4 g\n\
+        14 s@8 done\n\
+        15 s@9 made 6\n\
+        16 s@10 done\n\
+        17 s@11 made 7\n\
+        18 s@12 done\n\
+        finish\n\
+        journal s 13\n\
+        0 0.1 mkdir /d\n\
+        1 0.2 create /d/f\n\
+        2 0.3 append /d/f 2 ab\n\
+        3 0.4 append /d/f 2 cd\n\
+        4 0.6 createover /d/f\n\
+        5 0.8 chmod /d/f 0007\n\
+        6 0.9 mkdir /e\n\
+        7 0.10 mv /d/f /e/g\n\
+        8 0.14 rm /d\n\
+        9 0.15 create /e/f\n\
+        10 0.16 append /e/f 3 abc\n\
+        11 0.17 mkdir /h\n\
+        12 0.18 rmr /h\n\
+        journal t 0\n\
+        tree s 4\n\
+        0 dir 1 0755 13 /\n\
+        1 dir 5 0755 10 e\n\
+        2 file 6 0644 11 3 f\n\
+        2 file 4 0007 6 0 g\n\
+        tree t 1\n\
+        0 dir 1 0755 0 /\n\
+        .",
+    ),
+    // A file of two pages.
+    (
+        "s create /f\ns append /f {a*65536}\ns append /f bc\ns cat /f\n",
+        "Ok\nsetup\n\
+        1 s@0 made 2\n\
+        2 s@1 done\n\
+        3 s@2 done\n\
+        4 s@3 bytes 65536 more {a*65536}\n\
+        4 s@3 bytes 2 end bc\n\
+        finish\n\
+        journal s 3\n\
+        0 0.1 create /f\n\
+        1 0.2 append /f 65536 {a*65536}\n\
+        2 0.3 append /f 2 bc\n",
+    ),
+    // The limits of a path's text and of a script's lines.
+    (
+        "s mkdir {/a*1000}\ns mkdir /{a*255}\ns mkdir /{a*256}\ns mkdir {/abcdefg*1000}\ns mkdir {/abcdefg*1000}h\n",
+        "Ok\nsetup\n\
+        1 s@0 refused 6 NotFound\n\
+        2 s@0 made 2\n\
+        3 s@1 refused 2 TooLong\n\
+        4 s@1 refused 6 NotFound\n\
+        5 s@1 refused 2 TooLong\n",
+    ),
+    (
+        "{s ls /\n*1000}",
+        "Ok\nsetup\n1 s@0 page 0 end\n2 s@0 page 0 end\n",
+    ),
+];
 
 #[test]
 fn scripts_print_their_runs(rt: HostRuntime) -> Result<(), Fail> {
-    let alloc = rt.alloc();
-    let twice =
-        "setup\n1 s@0 made 2\n2 s@1 refused 9 Exists\n3 s@1 refused 6 NotFound\n4 s@1 refused 9 Exists\nfinish\njournal s 1\n0 0.1 mkdir /a\njournal t 0\ntree s 2\n0 dir 1 0755 1 /\n1 dir 2 0755 1 a\ntree t 1\n0 dir 1 0755 0 /\n";
-    for (input, text) in [
-        (SMALLEST, SMALLEST_TEXT),
-        (b"".as_slice(), EMPTY_TEXT),
-        (
-            b"s mkdir /a\ns mkdir /a\ns ls /b\ns mkdir /\n".as_slice(),
-            twice,
-        ),
-    ] {
-        let (ran, written) = called(alloc, &["serial"], input, &[], &[])?;
-        assert_eq!(rt; ran.status, Status::Ok);
-        assert_eq!(rt; written.as_slice(), text.as_bytes());
+    for (script, text) in RUNS {
+        assert!(rt;
+            gives(rt.alloc(), &["serial"], NONE, script, text)?,
+            "{script}"
+        );
+    }
+    Ok(())
+}
+
+/// What ends of which one call fails lead to.
+const FAILING: [(Fails, &str, &str); 8] = [
+    // The input takes one call, and its end another.
+    ([1, 0, 0], "s ls /\n", "ReadFault\n."),
+    ([2, 0, 0], "s ls /\n", "ReadFault\n."),
+    ([3, 0, 0], "s ls /\n", "Ok\nsetup\n1 s@0 page 0 end\n"),
+    // The run is written by one call.
+    ([0, 1, 0], "s ls /\n", "WriteFault\n."),
+    ([0, 2, 0], "s ls /\n", "Ok\nsetup\n1 s@0 page 0 end\n"),
+    // The first write of a store.
+    (
+        [0, 0, 2],
+        "s create /f\ns append /f ab\ns append /f cd\ns cat /f\n",
+        "Ok\nsetup\n\
+        1 s@0 made 2\n\
+        2 s@1 refused 23 StoreFault\n\
+        3 s@2 done\n\
+        4 s@3 bytes 2 end cd\n\
+        finish\n\
+        journal s 3\n\
+        0 0.1 create /f\n\
+        1 0.2 fault append /f 2 ab\n\
+        2 0.3 append /f 2 cd\n\
+        journal t 0\n\
+        tree s 2\n\
+        0 dir 1 0755 1 /\n\
+        1 file 2 0644 3 2 f\n\
+        tree t 1\n\
+        0 dir 1 0755 0 /\n\
+        .",
+    ),
+    // The first read.
+    (
+        [0, 0, 3],
+        "s create /f\ns append /f ab\ns cat /f\ns cat /f\n",
+        "Ok\nsetup\n\
+        1 s@0 made 2\n\
+        2 s@1 done\n\
+        3 s@2 refused 23 StoreFault\n\
+        4 s@3 bytes 2 end ab\n\
+        finish\n\
+        journal s 3\n\
+        0 0.1 create /f\n\
+        1 0.2 append /f 2 ab\n\
+        2 0.3 fault read /f 0 65536\n\
+        journal t 0\n\
+        tree s 2\n\
+        0 dir 1 0755 1 /\n\
+        1 file 2 0644 2 2 f\n\
+        tree t 1\n\
+        0 dir 1 0755 0 /\n\
+        .",
+    ),
+    // The read of a second page.
+    (
+        [0, 0, 6],
+        "s create /f\ns append /f {a*65536}\ns append /f bc\ns cat /f\n",
+        "Ok\nsetup\n\
+        1 s@0 made 2\n\
+        2 s@1 done\n\
+        3 s@2 done\n\
+        4 s@3 bytes 65536 more {a*65536}\n\
+        4 s@3 refused 23 StoreFault\n\
+        finish\n\
+        journal s 4\n\
+        0 0.1 create /f\n\
+        1 0.2 append /f 65536 {a*65536}\n\
+        2 0.3 append /f 2 bc\n\
+        3 0.5 fault readnext live 2 65536 65536\n\
+        journal t 0\n\
+        tree s 2\n\
+        0 dir 1 0755 1 /\n\
+        1 file 2 0644 3 65538 f\n\
+        tree t 1\n\
+        0 dir 1 0755 0 /\n\
+        .",
+    ),
+];
+
+#[test]
+fn faults_of_the_ends_are_told(rt: HostRuntime) -> Result<(), Fail> {
+    for (fails, script, text) in FAILING {
+        assert!(rt;
+            gives(rt.alloc(), &["serial"], fails, script, text)?,
+            "{fails:?}"
+        );
+    }
+    Ok(())
+}
+
+/// Inputs whose first line is no command, each up to a bar.
+const NO_COMMANDS: &str = "s mkdir /a\
+    |s  mkdir /a\n\
+    |s mkdir  /a\n\
+    |s mkdir /a \n\
+    | s mkdir /a\n\
+    |s\tmkdir /a\n\
+    |s mkdir\n\
+    |s mkdir \n\
+    |s mkdir /a /b\n\
+    |s mv /a\n\
+    |s mv /a /b /c\n\
+    |s append /a\n\
+    |s append /a b c\n\
+    |s append /a {a*65537}\n\
+    |s cat /a /b\n\
+    |s chmod /a 9\n\
+    |s chmod /a 2000\n\
+    |s chmod /a 01777\n\
+    |s chmod /a +7\n\
+    |s mkdir /a%20b\n\
+    |s mkdir /a#\n\
+    |S mkdir /a\n\
+    |t mkdir /a\n\
+    |s touch /a\n\
+    |\n\
+    |s ls /\r\n\
+    |s ls /\u{e9}\n";
+
+#[test]
+fn a_line_that_is_no_command_is_told(rt: HostRuntime) -> Result<(), Fail> {
+    let text = "Script 1 Command\n.";
+    for script in NO_COMMANDS.split('|') {
+        assert!(rt;
+            gives(rt.alloc(), &["serial"], NONE, script, text)?,
+            "{script}"
+        );
+    }
+    Ok(())
+}
+
+/// Inputs that are refused otherwise, and what is told.
+const REFUSED: [(&str, &str); 5] = [
+    ("s mkdir /a\ns ls /", "Script 2 Command\n."),
+    ("s ls /\n\n", "Script 2 Command\n."),
+    ("{s ls /\n*1001}", "Script 1001 Command\n."),
+    // 16,777,216 bytes, and one more.
+    ("{s ls /abcdefghi\n*1048576}", "Script 1001 Command\n."),
+    ("{s ls /abcdefghi\n*1048576}s", "TooLarge\n."),
+];
+
+#[test]
+fn an_input_that_is_no_script_is_refused(rt: HostRuntime) -> Result<(), Fail> {
+    for (script, text) in REFUSED {
+        assert!(rt;
+            gives(rt.alloc(), &["serial"], NONE, script, text)?,
+            "{script}"
+        );
     }
     Ok(())
 }
@@ -112,271 +424,174 @@ fn scripts_print_their_runs(rt: HostRuntime) -> Result<(), Fail> {
 fn other_words_are_usage(rt: HostRuntime) -> Result<(), Fail> {
     let none: &[&str] = &[];
     for words in [none, &["walk"], &["serial", "serial"], &["Serial"], &[""]] {
-        let (ran, written) = called(rt.alloc(), words, SMALLEST, &[], &[])?;
-        assert_eq!(rt; ran.status, Status::Usage);
-        assert_eq!(rt; written.len(), 0);
+        assert!(rt;
+            gives(rt.alloc(), words, NONE, "", "Usage\n.")?,
+            "{words:?}"
+        );
     }
     Ok(())
 }
 
-/// A directory is made, and every call behind it is refused.
-const REFUSED: &[u8] =
-    b"s mkdir /a\ns mkdir /a/.snapshot\ns create /a/.snapshot/s0/f\ns mkdir a\ns mkdir /a//b\ns mkdir /x/y\ns mkdir /a\ns mkdir /\ns rm /\ns cat /a\n";
+// ---- refusals
 
-const REFUSED_TEXT: &str =
-    "setup\n1 s@0 made 2\n2 s@1 refused 4 Reserved\n3 s@1 refused 5 ReadOnly\n4 s@1 refused 1 BadPath\n5 s@1 refused 1 BadPath\n6 s@1 refused 6 NotFound\n7 s@1 refused 9 Exists\n8 s@1 refused 9 Exists\n9 s@1 refused 11 IsRoot\n10 s@1 refused 8 NotFile\nfinish\njournal s 1\n0 0.1 mkdir /a\njournal t 0\ntree s 2\n0 dir 1 0755 1 /\n1 dir 2 0755 1 a\ntree t 1\n0 dir 1 0755 0 /\n";
+/// Commands at a path, which stands for `$`. The other paths of the moves lead nowhere, below a file, from the root, or to
+/// what is there.
+const EACH: &str = "s mkdir /a\ns create /f\n\
+    s mkdir $\ns create $\ns createover $\ns append $ x\ns rm $\ns rmr $\ns chmod $ 7\n\
+    s mv /f $\ns mv $ /z\ns mv /x $\ns mv $ /x/y\ns mv /f/x $\ns mv $ /f/x\ns mv / $\ns mv $ /a\n\
+    s cat $\ns stat $\ns ls $\n";
 
-/// A file is made, made anew, given a mode and moved; then the directory where it was goes.
-const CHANGED: &[u8] =
-    b"s mkdir /d\ns create /d/f\ns createover /d/f\ns chmod /d/f 7\ns mkdir /e\ns mv /d/f /e/g\ns stat /e/g\ns stat /d\ns rmr /d\n";
+/// What they print: `$` stands for the refusal of a command that changes the tree, and `&` for that of one that reads.
+const EACH_REFUSED: &str = "Ok\nsetup\n1 s@0 made 2\n2 s@1 made 3\n\
+    3 s@2 refused $\n4 s@2 refused $\n5 s@2 refused $\n6 s@2 refused $\n7 s@2 refused $\n\
+    8 s@2 refused $\n9 s@2 refused $\n10 s@2 refused $\n11 s@2 refused $\n12 s@2 refused $\n\
+    13 s@2 refused $\n14 s@2 refused $\n15 s@2 refused $\n16 s@2 refused $\n17 s@2 refused $\n\
+    18 s@2 refused &\n19 s@2 refused &\n20 s@2 refused &\n\
+    finish\n";
 
-const CHANGED_TEXT: &str =
-    "setup\n1 s@0 made 2\n2 s@1 made 3\n3 s@2 made 4\n4 s@3 done\n5 s@4 made 5\n6 s@5 done\n7 s@6 file 4 0007 4 0\n8 s@6 dir 2 0755 6 0\n9 s@6 done\nfinish\njournal s 7\n0 0.1 mkdir /d\n1 0.2 create /d/f\n2 0.3 createover /d/f\n3 0.4 chmod /d/f 0007\n4 0.5 mkdir /e\n5 0.6 mv /d/f /e/g\n6 0.9 rmr /d\njournal t 0\ntree s 3\n0 dir 1 0755 7 /\n1 dir 5 0755 6 e\n2 file 4 0007 4 0 g\ntree t 1\n0 dir 1 0755 0 /\n";
+/// Paths, and how the two kinds of command at them are refused: by the first rule that the path breaks.
+const PATHS: &str = "a: 1 BadPath\n\
+    /a/: 1 BadPath\n\
+    /x//y: 1 BadPath\n\
+    /f/./b: 1 BadPath\n\
+    /f/x/..: 1 BadPath\n\
+    {abcdefg/*1001}: 1 BadPath\n\
+    a/.snapshot: 1 BadPath\n\
+    /a/.snapshot/.snapshot: 1 BadPath\n\
+    {/abcdefg*1001}: 2 TooLong\n\
+    {/abcdefg*1001}/.snapshot: 2 TooLong\n\
+    {/a*1001}: 3 TooDeep\n\
+    {/a*1001}/.snapshot/s: 3 TooDeep\n\
+    /a/.snapshot: 4 Reserved, 6 NotFound\n\
+    /f/x/.snapshot: 4 Reserved, 6 NotFound\n\
+    /x/.snapshot/s: 5 ReadOnly, 6 NotFound\n\
+    /f/x/.snapshot/s/y: 5 ReadOnly, 6 NotFound\n\
+    /x/y: 6 NotFound\n";
 
-/// A file gets bytes twice, another none, and what is no file is refused them.
-const APPENDED: &[u8] =
-    b"s create /f\ns append /f ab\ns append /f cd\ns cat /f\ns create /e\ns cat /e\ns append /x ab\ns append / ab\n";
+/// A move from the first path to the second, and back.
+const BOTH: &str = "s mv $ &\ns mv & $\n";
 
-const APPENDED_TEXT: &str =
-    "setup\n1 s@0 made 2\n2 s@1 done\n3 s@2 done\n4 s@3 bytes 4 end abcd\n5 s@3 made 3\n6 s@4 bytes 0 end\n7 s@4 refused 6 NotFound\n8 s@4 refused 8 NotFile\nfinish\njournal s 4\n0 0.1 create /f\n1 0.2 append /f 2 ab\n2 0.3 append /f 2 cd\n3 0.5 create /e\njournal t 0\ntree s 3\n0 dir 1 0755 4 /\n1 file 3 0644 4 0 e\n1 file 2 0644 3 4 f\ntree t 1\n0 dir 1 0755 0 /\n";
+const BOTH_REFUSED: &str = "Ok\nsetup\n1 s@0 refused $\n2 s@0 refused $\nfinish\n";
 
-#[test]
-fn calls_are_answered_and_change_the_tree(rt: HostRuntime) -> Result<(), Fail> {
-    for (input, text) in [
-        (REFUSED, REFUSED_TEXT),
-        (CHANGED, CHANGED_TEXT),
-        (APPENDED, APPENDED_TEXT),
-    ] {
-        let (ran, written) = called(rt.alloc(), &["serial"], input, &[], &[])?;
-        assert_eq!(rt; ran.status, Status::Ok);
-        assert_eq!(rt; written.as_slice(), text.as_bytes());
-    }
-    Ok(())
+/// Two paths, and how both moves are refused: by the first rule that either path breaks.
+const PAIRS: &str = "b {/abcdefg*1001}: 1 BadPath\n\
+    b {/a*1001}: 1 BadPath\n\
+    b /a/.snapshot: 1 BadPath\n\
+    b /a/.snapshot/s: 1 BadPath\n\
+    {/abcdefg*1001} {/a*1001}: 2 TooLong\n\
+    {/abcdefg*1001} /a/.snapshot: 2 TooLong\n\
+    {/abcdefg*1001} /a/.snapshot/s: 2 TooLong\n\
+    {/a*1001} /a/.snapshot: 3 TooDeep\n\
+    {/a*1001} /a/.snapshot/s: 3 TooDeep\n\
+    /a/.snapshot /a/.snapshot/s: 4 Reserved\n";
+
+/// A command behind three that are done.
+const FOURTH: &str = "s mkdir /a\ns mkdir /a/b\ns create /f\ns $ &\n";
+
+const FOURTH_REFUSED: &str =
+    "Ok\nsetup\n1 s@0 made 2\n2 s@1 made 3\n3 s@2 made 4\n4 s@3 refused $\nfinish\n";
+
+/// Commands that what stands at their paths refuses, and how: by the first rule that is broken.
+const COMMANDS: &str = "mkdir /: 9 Exists\n\
+    mkdir /a: 9 Exists\n\
+    mkdir /f: 9 Exists\n\
+    mkdir /f/x: 7 NotDir\n\
+    create /: 9 Exists\n\
+    create /a: 9 Exists\n\
+    create /f: 9 Exists\n\
+    create /f/x: 7 NotDir\n\
+    createover /: 8 NotFile\n\
+    createover /a: 8 NotFile\n\
+    createover /f/x: 7 NotDir\n\
+    append / x: 8 NotFile\n\
+    append /a x: 8 NotFile\n\
+    append /f/x x: 7 NotDir\n\
+    rm /: 11 IsRoot\n\
+    rm /a: 12 NotEmpty\n\
+    rm /f/x: 7 NotDir\n\
+    rmr /: 11 IsRoot\n\
+    rmr /f/x: 7 NotDir\n\
+    chmod /f/x/y 7: 7 NotDir\n\
+    cat /: 8 NotFile\n\
+    cat /a: 8 NotFile\n\
+    cat /f/x: 7 NotDir\n\
+    stat /f/x: 7 NotDir\n\
+    ls /f: 7 NotDir\n\
+    ls /f/x: 7 NotDir\n\
+    mv /x /b: 6 NotFound\n\
+    mv /x /a: 6 NotFound\n\
+    mv /x /f/x: 6 NotFound\n\
+    mv /f/x /x/y: 6 NotFound\n\
+    mv / /x/y: 6 NotFound\n\
+    mv /a /a/x/y: 6 NotFound\n\
+    mv /f/x /b: 7 NotDir\n\
+    mv /f/x /a: 7 NotDir\n\
+    mv /a /f/x: 7 NotDir\n\
+    mv / /f/x: 7 NotDir\n\
+    mv /f /f/x: 7 NotDir\n\
+    mv /a /f: 9 Exists\n\
+    mv /a /a: 9 Exists\n\
+    mv /a/b /a: 9 Exists\n\
+    mv /a /a/b: 9 Exists\n\
+    mv / /: 9 Exists\n\
+    mv / /x: 11 IsRoot\n\
+    mv /a /a/x: 14 IntoItself\n\
+    mv /a /a/b/x: 14 IntoItself\n";
+
+/// A text with its two marks replaced.
+fn filled(alloc: Global, text: &str, parts: (&str, &str)) -> Result<String, NoMemory> {
+    let text = text.replace(alloc, "$", parts.0)?;
+    Ok(text.as_str().replace(alloc, "&", parts.1)?)
 }
 
-/// A line that makes a directory, at a path of so many components of so many letters, with this behind it.
-fn long_line(
+fn gives_at(
     alloc: Global,
-    components: usize,
-    letters: usize,
-    more: &[u8],
-) -> Result<Vec<u8>, AllocError> {
-    let name = vec![in alloc; b'a'; letters]?;
-    let mut line = Vec::from_slice(alloc, b"s mkdir ")?;
-    for _ in 0..components {
-        line.extend_from_slice(b"/")?;
-        line.extend_from_slice(name.as_slice())?;
-    }
-    line.extend_from_slice(more)?;
-    Ok(line)
+    script: &str,
+    paths: (&str, &str),
+    text: &str,
+) -> Result<bool, NoMemory> {
+    let script = filled(alloc, script, paths)?;
+    gives(alloc, &["serial"], NONE, script.as_str(), text)
+}
+
+fn refuses(
+    alloc: Global,
+    script: &str,
+    paths: (&str, &str),
+    text: &str,
+    whys: (&str, &str),
+) -> Result<bool, NoMemory> {
+    let text = filled(alloc, text, whys)?;
+    gives_at(alloc, script, paths, text.as_str())
+}
+
+/// Both parts of a text, which are one where it isn't parted.
+fn parts_of<'t>(text: &'t str, by: &str) -> (&'t str, &'t str) {
+    text.split_once(by).unwrap_or((text, text))
+}
+
+/// Whether a script at the paths of a row gives a text with the refusals of that row.
+fn is_refused(alloc: Global, script: &str, text: &str, row: &str) -> Result<bool, NoMemory> {
+    let (paths, whys) = parts_of(row, ": ");
+    refuses(
+        alloc,
+        script,
+        parts_of(paths, " "),
+        text,
+        parts_of(whys, ", "),
+    )
 }
 
 #[test]
-fn paths_have_limits(rt: HostRuntime) -> Result<(), Fail> {
-    let not_found = b"setup\n1 s@0 refused 6 NotFound\n".as_slice();
-    let too_long = b"setup\n1 s@0 refused 2 TooLong\n".as_slice();
-    for (components, letters, more, start) in [
-        (1000, 1, b"\n".as_slice(), not_found),
-        (1001, 1, b"\n", b"setup\n1 s@0 refused 3 TooDeep\n"),
-        (1, 255, b"\n", b"setup\n1 s@0 made 2\n"),
-        (1, 256, b"\n", too_long),
-        (32, 249, b"\n", not_found),
-        (32, 249, b"a\n", too_long),
+fn a_refused_command_has_the_first_rule_that_it_breaks(rt: HostRuntime) -> Result<(), Fail> {
+    for (script, text, rows) in [
+        (EACH, EACH_REFUSED, PATHS),
+        (BOTH, BOTH_REFUSED, PAIRS),
+        (FOURTH, FOURTH_REFUSED, COMMANDS),
     ] {
-        let input = long_line(rt.alloc(), components, letters, more)?;
-        let (_, written) = called(rt.alloc(), &["serial"], input.as_slice(), &[], &[])?;
-        assert!(rt; written.starts_with(start), "{components} {letters}");
-    }
-    Ok(())
-}
-
-#[test]
-fn inputs_out_of_form_are_script_faults(rt: HostRuntime) -> Result<(), Fail> {
-    for (input, line) in [
-        (b"s mkdir /a".as_slice(), 1),
-        (b"s mkdir /a\ns ls /", 2),
-        (b"s  mkdir /a\n", 1),
-        (b"s mkdir  /a\n", 1),
-        (b"s mkdir /a \n", 1),
-        (b" s mkdir /a\n", 1),
-        (b"s\tmkdir /a\n", 1),
-        (b"s mkdir\n", 1),
-        (b"s mkdir \n", 1),
-        (b"s mkdir /a /b\n", 1),
-        (b"s mv /a\n", 1),
-        (b"s mv /a /b /c\n", 1),
-        (b"s append /a\n", 1),
-        (b"s append /a b c\n", 1),
-        (b"s cat /a /b\n", 1),
-        (b"s chmod /a 9\n", 1),
-        (b"s chmod /a 2000\n", 1),
-        (b"s chmod /a 01777\n", 1),
-        (b"s chmod /a +7\n", 1),
-        (b"s mkdir /a%20b\n", 1),
-        (b"s mkdir /a#\n", 1),
-        (b"S mkdir /a\n", 1),
-        (b"t mkdir /a\n", 1),
-        (b"s touch /a\n", 1),
-        (b"\n", 1),
-        (b"s ls /\n\n", 2),
-        (b"s ls /\r\n", 1),
-        (b"s ls /\xff\n", 1),
-    ] {
-        let (ran, written) = called(rt.alloc(), &["serial"], input, &[], &[])?;
-        let kind = FaultKind::Command;
-        assert_eq!(rt; ran.status, Status::Script { line, kind }, "{input:?}");
-        assert_eq!(rt; written.len(), 0);
-    }
-    Ok(())
-}
-
-/// A script that makes a file, adds a word of so many letters and a short one, and reads the file.
-fn long_file(alloc: Global, letters: usize) -> Result<Vec<u8>, AllocError> {
-    let mut input = Vec::from_slice(alloc, b"s create /f\ns append /f ")?;
-    input.extend_from_slice(vec![in alloc; b'a'; letters]?.as_slice())?;
-    input.extend_from_slice(b"\ns append /f bc\ns cat /f\n")?;
-    Ok(input)
-}
-
-/// These parts, with 65,536 letters between any two.
-fn with_long_words(alloc: Global, parts: &[&str]) -> Result<Vec<u8>, AllocError> {
-    let word = vec![in alloc; b'a'; 65536]?;
-    let mut text = Vec::new(alloc);
-    for part in parts {
-        if !text.is_empty() {
-            text.extend_from_slice(word.as_slice())?;
+        for row in rows.lines() {
+            assert!(rt; is_refused(rt.alloc(), script, text, row)?, "{row}");
         }
-        text.extend_from_slice(part.as_bytes())?;
     }
-    Ok(text)
-}
-
-const TWO_PAGES: &[&str] = &[
-    "setup\n1 s@0 made 2\n2 s@1 done\n3 s@2 done\n4 s@3 bytes 65536 more ",
-    "\n4 s@3 bytes 2 end bc\nfinish\njournal s 3\n0 0.1 create /f\n1 0.2 append /f 65536 ",
-    "\n2 0.3 append /f 2 bc\njournal t 0\ntree s 2\n0 dir 1 0755 1 /\n1 file 2 0644 3 65538 f\ntree t 1\n0 dir 1 0755 0 /\n",
-];
-
-/// The further page meets a fault of the store.
-const ONE_PAGE: &[&str] = &[
-    "setup\n1 s@0 made 2\n2 s@1 done\n3 s@2 done\n4 s@3 bytes 65536 more ",
-    "\n4 s@3 refused 23 StoreFault\nfinish\njournal s 4\n0 0.1 create /f\n1 0.2 append /f 65536 ",
-    "\n2 0.3 append /f 2 bc\n3 0.5 fault readnext live 2 65536 65536\njournal t 0\ntree s 2\n0 dir 1 0755 1 /\n1 file 2 0644 3 65538 f\ntree t 1\n0 dir 1 0755 0 /\n",
-];
-
-#[test]
-fn files_are_read_page_by_page(rt: HostRuntime) -> Result<(), Fail> {
-    let alloc = rt.alloc();
-    let none: &[u64] = &[];
-    for (fails, parts) in [(none, TWO_PAGES), (&[6], ONE_PAGE)] {
-        let written = written_over(alloc, long_file(alloc, 65536)?.as_slice(), fails)?;
-        let text = with_long_words(alloc, parts)?;
-        assert!(rt; written.as_slice() == text.as_slice(), "{fails:?}");
-    }
-    Ok(())
-}
-
-#[test]
-fn a_word_past_the_limit_is_a_script_fault(rt: HostRuntime) -> Result<(), Fail> {
-    let alloc = rt.alloc();
-    let input = long_file(alloc, 65537)?;
-    let (ran, written) = called(alloc, &["serial"], input.as_slice(), &[], &[])?;
-    let kind = FaultKind::Command;
-    assert_eq!(rt; ran.status, Status::Script { line: 2, kind });
-    assert_eq!(rt; written.len(), 0);
-    Ok(())
-}
-
-const TWICE: &[u8] = b"s create /f\ns append /f ab\ns append /f cd\ns cat /f\n";
-
-/// The first write fails.
-const WRITE_FAULT: &str =
-    "setup\n1 s@0 made 2\n2 s@1 refused 23 StoreFault\n3 s@2 done\n4 s@3 bytes 2 end cd\nfinish\njournal s 3\n0 0.1 create /f\n1 0.2 fault append /f 2 ab\n2 0.3 append /f 2 cd\njournal t 0\ntree s 2\n0 dir 1 0755 1 /\n1 file 2 0644 3 2 f\ntree t 1\n0 dir 1 0755 0 /\n";
-
-const ONCE: &[u8] = b"s create /f\ns append /f ab\ns cat /f\ns cat /f\n";
-
-/// The first read fails.
-const READ_FAULT: &str =
-    "setup\n1 s@0 made 2\n2 s@1 done\n3 s@2 refused 23 StoreFault\n4 s@3 bytes 2 end ab\nfinish\njournal s 3\n0 0.1 create /f\n1 0.2 append /f 2 ab\n2 0.3 fault read /f 0 65536\njournal t 0\ntree s 2\n0 dir 1 0755 1 /\n1 file 2 0644 2 2 f\ntree t 1\n0 dir 1 0755 0 /\n";
-
-#[test]
-fn faults_of_a_store_are_entered(rt: HostRuntime) -> Result<(), Fail> {
-    for (input, fails, text) in [(TWICE, 2, WRITE_FAULT), (ONCE, 3, READ_FAULT)] {
-        let written = written_over(rt.alloc(), input, &[fails])?;
-        assert_eq!(rt; written.as_slice(), text.as_bytes(), "{fails}");
-    }
-    Ok(())
-}
-
-/// So many lines `s ls /`.
-fn many_lines(alloc: Global, lines: usize) -> Result<Vec<u8>, AllocError> {
-    let mut input = Vec::new(alloc);
-    for _ in 0..lines {
-        input.extend_from_slice(b"s ls /\n")?;
-    }
-    Ok(input)
-}
-
-#[test]
-fn a_script_has_at_most_a_thousand_lines(rt: HostRuntime) -> Result<(), Fail> {
-    let alloc = rt.alloc();
-    let (ran, _) = called(
-        alloc,
-        &["serial"],
-        many_lines(alloc, 1000)?.as_slice(),
-        &[],
-        &[],
-    )?;
-    assert_eq!(rt; ran.status, Status::Ok);
-    let (ran, written) = called(
-        alloc,
-        &["serial"],
-        many_lines(alloc, 1001)?.as_slice(),
-        &[],
-        &[],
-    )?;
-    let kind = FaultKind::Command;
-    assert_eq!(rt; ran.status, Status::Script { line: 1001, kind });
-    assert_eq!(rt; written.len(), 0);
-    Ok(())
-}
-
-#[test]
-fn a_byte_past_the_limit_is_too_large(rt: HostRuntime) -> Result<(), Fail> {
-    let alloc = rt.alloc();
-    let kind = FaultKind::Command;
-    for (bytes, status) in [
-        (16_777_216, Status::Script { line: 1, kind }),
-        (16_777_217, Status::TooLarge),
-    ] {
-        let input = vec![in alloc; b'\n'; bytes]?;
-        let (ran, written) = called(alloc, &["serial"], input.as_slice(), &[], &[])?;
-        assert_eq!(rt; ran.status, status);
-        assert_eq!(rt; written.len(), 0);
-    }
-    Ok(())
-}
-
-#[test]
-fn a_failing_source_is_a_read_fault(rt: HostRuntime) -> Result<(), Fail> {
-    // The input takes one call, and its end another.
-    for call in [1, 2] {
-        let (ran, written) = called(rt.alloc(), &["serial"], SMALLEST, &[call], &[])?;
-        assert_eq!(rt; ran.status, Status::ReadFault);
-        assert_eq!(rt; written.len(), 0);
-    }
-    let (ran, _) = called(rt.alloc(), &["serial"], SMALLEST, &[3], &[])?;
-    assert_eq!(rt; ran.status, Status::Ok);
-    Ok(())
-}
-
-#[test]
-fn a_failing_sink_is_a_write_fault(rt: HostRuntime) -> Result<(), Fail> {
-    let (ran, written) = called(rt.alloc(), &["serial"], SMALLEST, &[], &[1])?;
-    assert_eq!(rt; ran.status, Status::WriteFault);
-    assert_eq!(rt; written.len(), 0);
-    let (ran, written) = called(rt.alloc(), &["serial"], SMALLEST, &[], &[2])?;
-    assert_eq!(rt; ran.status, Status::Ok);
-    assert_eq!(rt; written.as_slice(), SMALLEST_TEXT.as_bytes());
     Ok(())
 }

@@ -1,17 +1,19 @@
 //! The text of a run.
-ghost use Rattle.std.specs.Prelude.{◌≡◌, ◌++◌, ◌∷◌, ℕ, List, IfOk, OnOk, codes, length, string_bytes, map};
+ghost use Rattle.std.specs.Prelude.{◌≡◌, ◌++◌, ◌∷◌, ℕ, List, IfOk, OnOk, false, codes, length, string_bytes, map};
 ghost use Rattle.std.specs.Fmt.{decimal};
 ghost use Rattle.std.specs.List.{flat_map};
 ghost use Rattle.percent_encoding.specs.Iter.{encoded_text};
 ghost use Rattle.hsnap.specs.TextParts.{spaced, ended, indented, escaped, shown, mode_text};
 ghost use Rattle.hs_types.specs.declared.call.Call.TheVariants as calls;
+ghost use Rattle.hs_types.specs.declared.reply.Reply.TheVariants.{Refused};
+ghost use Rattle.hs_plain.specs.Served.{is_served};
 ghost use Rattle.hsnap.specs.CallText.{create_word, delete_word, call_text};
 ghost use Rattle.hsnap.specs.Text.{side_word, kind_word, more_or_end, reply_text, item_text, further_lines, reply_line, answered_lines, item_lines, heading, log_lines, marked, entry_line, journal_lines, node_name, dir_line, file_line, node_line, tree_lines, text_of};
 
 use crate::ran::{ClientLog, LogItem, LogWhat, Ran, Section};
 use hs_types::{
     Answered, Call, Entry, EntryKind, Item, List, Mode, Name, NoMemory, Place, ReadCursor, ReadLen,
-    Reply, Side, TreeLine,
+    Refusal, Reply, Side, TreeLine,
 };
 use percent_encoding::{
     AsciiSet, CONTROLS, PercentEncode, ascii_set, percent_encode, utf8_percent_encode,
@@ -128,8 +130,27 @@ fn write_reply(out: &mut String, reply: &Reply) -> Result<(), NoMemory>
         Reply::Page { items, next } => {
             writeln!(out, "page {} {}", items.len(), more_or_end(next))?
         }
-        Reply::Refused(why) => writeln!(out, "refused {} {}", why.number(), why.name())?,
+        Reply::SnapMade { id } => writeln!(out, "snap {}", id.0)?,
+        Reply::Snaps { list, .. } => writeln!(out, "snaps {}", list.len())?,
+        Reply::Dirs { list } => writeln!(out, "dirs {}", list.len())?,
+        Reply::Report { lines, next } => {
+            writeln!(out, "report {} {}", lines.len(), more_or_end(next))?
+        }
+        Reply::Refused(why) => write_refusal(out, *why)?,
         Reply::NoMemory => out.push_str("no memory\n")?,
+    }
+    Ok(())
+}
+
+/// The number and the name of a refusal; `Moved` is followed by its two ticks.
+fn write_refusal(out: &mut String, why: Refusal) -> Result<(), NoMemory>
+    ensures { OnOk result (string_bytes out.new ≡ string_bytes out.old ++ ended (reply_text (Refused why))) }
+{
+    let number = why.number();
+    let name = why.name();
+    match why {
+        Refusal::Moved { then, now } => writeln!(out, "refused {number} {name} {then} {now}")?,
+        _ => writeln!(out, "refused {number} {name}")?,
     }
     Ok(())
 }
@@ -157,6 +178,10 @@ fn write_further_lines(out: &mut String, reply: &Reply) -> Result<(), NoMemory>
         | Reply::Done
         | Reply::Bytes { .. }
         | Reply::Stat { .. }
+        | Reply::SnapMade { .. }
+        | Reply::Snaps { .. }
+        | Reply::Dirs { .. }
+        | Reply::Report { .. }
         | Reply::Refused(_)
         | Reply::NoMemory => Ok(()),
     }
@@ -230,6 +255,50 @@ fn write_call(out: &mut String, call: &Call) -> Result<(), NoMemory>
         Call::ReadNext { cursor, len } => write_read_next(out, *cursor, *len)?,
         Call::Stat { .. } => out.push_str("stat\n")?,
         Call::List { .. } => out.push_str("list\n")?,
+        _ => write_snapshot_call(out, call)?,
+    }
+    Ok(())
+}
+
+/// The text of a call on snapshots, or that goes on at a cursor.
+fn write_snapshot_call(out: &mut String, call: &Call) -> Result<(), NoMemory>
+    requires { is_served call.now ≡ false }
+    ensures { OnOk result (string_bytes out.new ≡ string_bytes out.old ++ ended (call_text call.now)) }
+{
+    match call {
+        Call::Allow { path } => writeln!(out, "allow {}", escaped(path.text()))?,
+        Call::Disallow { path } => writeln!(out, "disallow {}", escaped(path.text()))?,
+        Call::Snap { path, name } => {
+            writeln!(
+                out,
+                "snap {} {}",
+                escaped(path.text()),
+                escaped(name.text())
+            )?
+        }
+        Call::SnapDel { path, name } => {
+            writeln!(
+                out,
+                "snapdel {} {}",
+                escaped(path.text()),
+                escaped(name.text())
+            )?
+        }
+        Call::SnapRen { path, old, new } => {
+            let path = escaped(path.text());
+            writeln!(
+                out,
+                "snapren {path} {} {}",
+                escaped(old.text()),
+                escaped(new.text())
+            )?
+        }
+        Call::ListNext { .. } => out.push_str("listnext\n")?,
+        Call::Snaps { .. } => out.push_str("snaps\n")?,
+        Call::Dirs => out.push_str("dirs\n")?,
+        Call::Report { .. } => out.push_str("report\n")?,
+        Call::ReportNext { .. } => out.push_str("reportnext\n")?,
+        _ => unreachable!(),
     }
     Ok(())
 }

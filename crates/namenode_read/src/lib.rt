@@ -6,8 +6,10 @@ ghost use Rattle.hs_plain.specs.declared.state.State.{State};
 ghost use Rattle.hs_plain.specs.Faults.{IsFaultOf};
 ghost use Rattle.hs_plain.specs.Files.{block_files};
 ghost use Rattle.hs_plain.specs.Valid.{IsSorted};
+ghost use Rattle.hs_plain.specs.Served.{is_served};
 ghost use Rattle.hs_plain.specs.Viewed.{StandsFor};
-ghost use Rattle.hs_plain.specs.Answer.{stat_reply, list_reply, asked as plain_asked, answer_by, answer as plain_answer, is_shared};
+ghost use Rattle.hs_plain.specs.Reading.{stat_reply, list_reply};
+ghost use Rattle.hs_plain.specs.Answer.{asked as plain_asked, answer_by, answer as plain_answer, is_shared};
 
 use hs_plain::answer::{first_page, read_path, reply_of, stat_at};
 use hs_plain::resolve::items_at;
@@ -45,6 +47,7 @@ fn list_page(
 /// The reply to a call, or why it isn't answered with what it asks for.
 fn asked(alloc: Global, state: &WholeState, call: &Call) -> Result<Reply, AskFault>
     requires shared { is_shared call.now ≡ true }
+    requires served { is_served call.now ≡ true }
     requires sorted { IsSorted state.now }
     ensures { MatchResult result (λ reply. plain_asked block_files state.now call.now ≡ Ok reply) (IsFaultOf (plain_asked block_files state.now call.now)) }
 {
@@ -58,13 +61,24 @@ fn asked(alloc: Global, state: &WholeState, call: &Call) -> Result<Reply, AskFau
         | Call::Rename { .. }
         | Call::SetMode { .. }
         | Call::Read { .. }
-        | Call::ReadNext { .. } => unreachable!(),
+        | Call::Allow { .. }
+        | Call::Disallow { .. }
+        | Call::Snap { .. }
+        | Call::SnapDel { .. }
+        | Call::SnapRen { .. }
+        | Call::ReadNext { .. }
+        | Call::ListNext { .. }
+        | Call::Snaps { .. }
+        | Call::Dirs
+        | Call::Report { .. }
+        | Call::ReportNext { .. } => unreachable!(),
     }
 }
 
 /// The reply to a call in the state as it is kept.
 fn reply_in(alloc: Global, state: &WholeState, call: &Call) -> Reply
     requires shared { is_shared call.now ≡ true }
+    requires served { is_served call.now ≡ true }
     requires sorted { IsSorted state.now }
     ensures { result ≢ Reply.NoMemory → result ≡ answer_by block_files state.now call.now }
 {
@@ -75,11 +89,9 @@ fn reply_in(alloc: Global, state: &WholeState, call: &Call) -> Reply
 /// answer of the plain machine.
 pub fn ask(alloc: Global, state: &WholeState, _tick: u64, call: &Call) -> Reply
     requires shared { is_shared call.now ≡ true }
+    requires served { is_served call.now ≡ true }
     requires sorted { IsSorted state.now }
     ensures answered { (plain : State (List ℕ)) → StandsFor state.now plain → result ≢ Reply.NoMemory → result ≡ plain_answer plain call.now }
 {
     reply_in(alloc, state, call)
 }
-
-#[cfg(test)]
-mod tests;

@@ -11,7 +11,8 @@ use mathlib.Core.Logic.{⊎_elim}
 use Rattle.std.proofs.lemmas.List.{map-append, set-get_or}
 use Rattle.std.proofs.lemmas.List.Sums.{sum_by-append}
 use Rattle.hs_types.specs.Names.{Names}
-use Rattle.hs_types.specs.Blocks.{BlockMap, IsFile, Holds, HoldsFile, find, bytes_of, joined, file_bytes, same_block, block_size}
+use Rattle.hs_types.specs.Blocks.{BlockMap, IsFile, Holds, HoldsFile, find, bytes_of, joined, file_bytes, same_block}
+use Rattle.hs_types.specs.Limits.{block_size}
 use Rattle.hs_types.specs.declared.ids.BlockId.{BlockId}
 use Rattle.hs_plain.specs.declared.state.Node.{Node}
 use Rattle.hs_plain.specs.declared.state.Body.{Body}
@@ -30,18 +31,19 @@ use Rattle.block_contents.specs.Contents.{is_last, AtMost, Appended, KeepsFile, 
 use Rattle.block_contents.proofs.Whole.{same_self, same_number, holds_some}
 use Rattle.block_contents.proofs.Told.{changes_map, told_map, told_after}
 use Rattle.hs_types.specs.declared.call.Call.TheVariants as calls
-use Rattle.hs_types.specs.declared.call.Reply.TheVariants as replies
+use Rattle.hs_types.specs.declared.reply.Reply.TheVariants as replies
 use Rattle.hs_plain.specs.Asked.{Asked}
 use Rattle.hs_plain.specs.Files.{Files, plain_files, block_files}
-use Rattle.hs_plain.specs.Answer.{append_at, answer, replied, told as told_of, claimed}
-use Rattle.hs_plain.specs.Valid.{IsLive}
+use Rattle.hs_plain.specs.Modifying.{append_at}
+use Rattle.hs_plain.specs.Answer.{answer, replied, reply_to, claimed}
 use Rattle.hs_plain.proofs.Stands.{answer_stands, appended_stands, appended_told}
 use Rattle.hs_plain.proofs.ValidAsked.{IsFileAt, append_there}
-use Rattle.namenode_write.specs.Consistent.{IsKept}
+use Rattle.namenode_write.specs.Consistent.{IsBare, IsKept}
 use Rattle.namenode_write.specs.Extends.{file_of, IsExtended}
 use Rattle.namenode_write.specs.Made.{IsPlain, IsMade}
 use Rattle.namenode_write.proofs.Freed.{same_state}
-use Rattle.namenode_write.proofs.KeptCalls.{kept_from, live-changed}
+use Rattle.namenode_write.proofs.KeptCalls.{kept_from}
+use Rattle.namenode_write.proofs.Bare.{bare-changed}
 use Rattle.namenode_write.specs.Kept.{blocks_of, times, uses, IsFileBody, HoldsBody, AreFiles, AreBlocks, SameBytes}
 use Rattle.namenode_write.proofs.Trees.{uses-cons, times-append, times-cons, AllBodies}
 
@@ -394,7 +396,7 @@ module _ (told : Option BlockMap) (low : ℕ) (state : State FileBlocks) (waitin
         ∙ sym (ap (viewed_tree (bytes_in a)) place.is)
 
     pub append-bytes : Changes told now (SameBytes state)
-    append-bytes = changes_map (λ map. AllBodies (HoldsBody map) state.tree) (KeepsFile file.size file.blocks) (SameBytes state) told now (λ a b all keep. same_state a b state kept.no_snapshots (tree_same a b all keep)) kept.blocks.files.held keeps
+    append-bytes = changes_map (λ map. AllBodies (HoldsBody map) state.tree) (KeepsFile file.size file.blocks) (SameBytes state) told now (λ a b all keep. same_state a b state kept.bare.no_snapshots (tree_same a b all keep)) kept.blocks.files.held keeps
 
     totals_before : Totals told low (λ block. uses block state.tree + times block waiting)
     totals_before = record { once = kept.blocks.once; known = kept.blocks.known; there = kept.blocks.there }
@@ -406,7 +408,7 @@ module _ (told : Option BlockMap) (low : ℕ) (state : State FileBlocks) (waitin
           let t = totals-made told now low high (λ block. uses block state.tree + times block waiting) (λ block. uses block state.tree + times block left) totals_before only made.0 made.2
           (λ block. let l : times block left ≡ times block waiting + times block made.0 = ap (times block) made.1 ∙ times-append block waiting made.0 in omega arith) in
           let here : IfSome now (λ map. HoldsBody map node.body) = told_after (KeepsFile file.size file.blocks) (λ map. HoldsBody map node.body) told now (λ a b keep. subst (HoldsBody b) (sym there.body) keep.holds) keeps in
-          kept_from now high state left kept.live
+          kept_from now high state left kept.bare
           (record {
             files = subst (AreFiles now) (sym place.is) (files_after node (subst IsFileBody (sym there.body) append-listed) here);
             once = t.once;
@@ -430,10 +432,10 @@ module _ (told : Option BlockMap) (low : ℕ) (state : State FileBlocks) (waitin
             omega arith) in
             record { files = files_after (refilled node new (state.tick + 1)) extended.file new_held; once = t.once; known = t.known; there = t.there }
 
-        live_after : IsLive (with_file state path node new)
+        live_after : IsBare (with_file state path node new)
         live_after =
             let files : Files FileBlocks = record block_files { append = λ _ _. new } in
-            subst (λ (a : Asked (Names × Node FileBlocks × FileBlocks)). IsLive (if_asked (appended files state bytes) state a)) found (live-changed files state (calls.Append text bytes) kept.live)
+            subst (λ (a : Asked (Names × Node FileBlocks × FileBlocks)). IsBare (if_asked (appended files state bytes) state a)) found (bare-changed files state (calls.Append text bytes) refl kept.bare)
 
         pub append-kept : IsKept now high (with_file state path node new) waiting
         append-kept = kept_from now high (with_file state path node new) waiting live_after (subst (λ (t : Tree FileBlocks). AreBlocks now high t waiting) (sym (place.puts (refilled node new (state.tick + 1)))) blocks_after)
@@ -441,7 +443,7 @@ module _ (told : Option BlockMap) (low : ℕ) (state : State FileBlocks) (waitin
         -- ---- the plain machine
 
         done_too : (plain : State (List ℕ)) → IsPlain told state plain → answer plain (calls.Append text bytes) ≡ replies.Done
-        done_too plain is = answer_stands state plain is.stands (calls.Append text bytes) refl ∙ ap (λ (a : Asked (Names × Node FileBlocks × FileBlocks)). told_of (replied replies.Done a)) found
+        done_too plain is = answer_stands state plain is.stands (calls.Append text bytes) refl refl ∙ ap (λ (a : Asked (Names × Node FileBlocks × FileBlocks)). reply_to (replied replies.Done a)) found
 
         new_bytes : (a b : BlockMap) → KeepsFile file.size file.blocks a b → Appended file.size file.blocks new.blocks bytes a b → bytes_in b new ≡ bytes_in b file ++ bytes
         new_bytes a b keep appended = ap (λ n. file_bytes b n new.blocks) extended.size ∙ appended.contents ∙ ap (λ (l : List ℕ). l ++ bytes) (sym keep.contents)

@@ -9,10 +9,10 @@ use Rattle.hs_types.specs.declared.call.Call.{Call}
 use Rattle.hs_types.specs.declared.call.Call.TheVariants as calls
 use Rattle.hs_types.specs.declared.call.Place.{Place}
 use Rattle.hs_types.specs.declared.call.ReadCursor.{ReadCursor}
-use Rattle.hs_types.specs.declared.call.Reply.{Reply}
-use Rattle.hs_types.specs.declared.call.Reply.TheVariants as replies
-use Rattle.hs_types.specs.declared.call.Refusal.{Refusal}
-use Rattle.hs_types.specs.declared.call.Refusal.TheVariants.{StoreFault}
+use Rattle.hs_types.specs.declared.reply.Reply.{Reply}
+use Rattle.hs_types.specs.declared.reply.Reply.TheVariants as replies
+use Rattle.hs_types.specs.declared.refusal.Refusal.{Refusal}
+use Rattle.hs_types.specs.declared.refusal.Refusal.TheVariants.{StoreFault}
 use Rattle.hs_plain.specs.declared.state.State.{State}
 use Rattle.hs_plain.specs.declared.state.FileBlocks.{FileBlocks}
 use Rattle.hs_plain.specs.declared.resolve.AskFault.{AskFault}
@@ -22,10 +22,12 @@ use Rattle.block_store.specs.declared.store.StoreErr.TheVariants as errors
 use Rattle.hs_plain.specs.Asked.{Asked, ◌>>=◌}
 use Rattle.hs_plain.specs.Faults.{IsFaultOf}
 use Rattle.hs_plain.specs.Files.{Files, plain_files, block_files}
-use Rattle.hs_plain.specs.Answer.{asked, replied, told as told_of, answer_by, answer, is_modifying, uses_store, is_ok_reply, blanked, claimed, found_file, next_file, page_at}
+use Rattle.hs_plain.specs.Answer.{asked, replied, reply_to, answer_by, answer, is_modifying, uses_store, is_ok_reply, blanked, claimed}
+use Rattle.hs_plain.specs.Reading.{found_file, next_file, page_at}
 use Rattle.hs_plain.specs.Change.{changed_if}
 use Rattle.hs_plain.specs.Viewed.{bytes_in}
 use Rattle.hs_plain.proofs.Stands.{answer_sized, ok_stands, read_told}
+use Rattle.hs_plain.specs.Served.{is_served}
 use Rattle.namenode_write.specs.Kept.{IsFileBody, HoldsBody}
 use Rattle.namenode_write.specs.Consistent.{IsKept}
 use Rattle.namenode_write.specs.Made.{IsPlain, IsMade, IsCause, IsRefusal, fault_of}
@@ -49,22 +51,26 @@ refused-blanked replies.Done why same = same
 refused-blanked (replies.Bytes bytes next) why same = cc
 refused-blanked (replies.Stat id is_dir mode stamp size) why same = same
 refused-blanked (replies.Page items next) why same = same
+refused-blanked (replies.SnapMade id) why same = same
+refused-blanked (replies.Snaps dir list) why same = same
+refused-blanked (replies.Dirs list) why same = same
+refused-blanked (replies.Report lines next) why same = same
 refused-blanked (replies.Refused other) why same = same
 refused-blanked replies.NoMemory why same = same
 
 -- the plain machine refuses what is refused here
-pub cause-asked : (told : Option BlockMap) (whole : State FileBlocks) (plain : State (List ℕ)) (call : Call) (fault : AskFault) → IsPlain told whole plain → IsFaultOf (asked block_files whole call) fault → IsCause plain call fault
-cause-asked told whole plain call (Refused why) is refused =
-    subst (λ b. IsRefusal b plain call why) (sym (asked_never block_files whole call why refused)) (refused-blanked (answer plain call) why (answer_sized whole plain is.stands call ∙ ap told_of refused))
-cause-asked told whole plain call NoMemory is refused = tt
+pub cause-asked : (told : Option BlockMap) (whole : State FileBlocks) (plain : State (List ℕ)) (call : Call) (fault : AskFault) → is_served call ≡ true → IsPlain told whole plain → IsFaultOf (asked block_files whole call) fault → IsCause plain call fault
+cause-asked told whole plain call (Refused why) served is refused =
+    subst (λ b. IsRefusal b plain call why) (sym (asked_never whole call why refused)) (refused-blanked (answer plain call) why (answer_sized whole plain is.stands call served ∙ ap reply_to refused))
+cause-asked told whole plain call NoMemory served is refused = tt
 
 -- a fault of the store comes where the plain machine does the call
-pub cause-store : (told : Option BlockMap) (whole : State FileBlocks) (plain : State (List ℕ)) (call : Call) (error : StoreErr) (fault : AskFault) → fault ≡ fault_of error → uses_store call ≡ true → is_ok_reply (answer_by block_files whole call) ≡ true
+pub cause-store : (told : Option BlockMap) (whole : State FileBlocks) (plain : State (List ℕ)) (call : Call) (error : StoreErr) (fault : AskFault) → is_served call ≡ true → fault ≡ fault_of error → uses_store call ≡ true → is_ok_reply (answer_by block_files whole call) ≡ true
     → IsPlain told whole plain → IsCause plain call fault
-cause-store told whole plain call error fault fault_is uses ok is = subst (λ (f : AskFault). IsCause plain call f) (sym fault_is) (at error)
+cause-store told whole plain call error fault served fault_is uses ok is = subst (λ (f : AskFault). IsCause plain call f) (sym fault_is) (at error)
   where
     at : (e : StoreErr) → IsCause plain call (fault_of e)
-    at errors.Failed = (uses, ok_stands whole plain is.stands call ∙ ok)
+    at errors.Failed = (uses, ok_stands whole plain is.stands call served ∙ ok)
     at errors.NoMemory = tt
 
 pub err_at : {T E : Type 0} (r : Result T E) (x : E) (P : E → Type 0) → IsErrAnd r (λ y. y ≡ x) → P x → IfErr r P
@@ -87,12 +93,39 @@ never_fault {X = X} {T = T} {Q = Q} (Err e) a x never is refused of = not_so (su
 
 -- ---- reads
 
+-- a call that reads a file is served
+reads_served : (call : Call) → is_modifying call ≡ false → uses_store call ≡ true → is_served call ≡ true
+reads_served (calls.Mkdir path) reads uses = absurd (cc)
+reads_served (calls.Create path over) reads uses = absurd (cc)
+reads_served (calls.Append path bytes) reads uses = absurd (cc)
+reads_served (calls.Delete path recursive) reads uses = absurd (cc)
+reads_served (calls.Rename old new) reads uses = absurd (cc)
+reads_served (calls.SetMode path mode) reads uses = absurd (cc)
+reads_served (calls.Read path offset len) reads uses = refl
+reads_served (calls.ReadNext cursor len) reads uses = refl
+reads_served (calls.Stat path) reads uses = absurd (cc)
+reads_served (calls.List path size) reads uses = absurd (cc)
+reads_served (calls.Allow path) reads uses = absurd (cc)
+reads_served (calls.Disallow path) reads uses = absurd (cc)
+reads_served (calls.Snap path name) reads uses = absurd (cc)
+reads_served (calls.SnapDel path name) reads uses = absurd (cc)
+reads_served (calls.SnapRen path old new) reads uses = absurd (cc)
+reads_served (calls.ListNext cursor size) reads uses = absurd (cc)
+reads_served (calls.Snaps path) reads uses = absurd (cc)
+reads_served calls.Dirs reads uses = absurd (cc)
+reads_served (calls.Report path from to size) reads uses = absurd (cc)
+reads_served (calls.ReportNext cursor size) reads uses = absurd (cc)
+
 ok-blanked : (reply : Reply) → is_ok_reply (blanked reply) ≡ is_ok_reply reply
 ok-blanked (replies.Made id) = refl
 ok-blanked replies.Done = refl
 ok-blanked (replies.Bytes bytes next) = refl
 ok-blanked (replies.Stat id is_dir mode stamp size) = refl
 ok-blanked (replies.Page items next) = refl
+ok-blanked (replies.SnapMade id) = refl
+ok-blanked (replies.Snaps dir list) = refl
+ok-blanked (replies.Dirs list) = refl
+ok-blanked (replies.Report lines next) = refl
 ok-blanked (replies.Refused why) = refl
 ok-blanked replies.NoMemory = refl
 
@@ -102,7 +135,7 @@ telling map = record block_files { bytes = bytes_in map }
 
 claimed-read : (told : Option BlockMap) (whole : State FileBlocks) (plain : State (List ℕ)) (call : Call) (reply : Reply) → IsPlain told whole plain → is_modifying call ≡ false → uses_store call ≡ true
     → blanked reply ≡ answer_by block_files whole call → IfSome told (λ map. reply ≡ answer_by (telling map) whole call) → claimed (is_some told) reply ≡ claimed (is_some told) (answer plain call)
-claimed-read None whole plain call reply is reads uses sized tells = sized ∙ sym (answer_sized whole plain is.stands call)
+claimed-read None whole plain call reply is reads uses sized tells = sized ∙ sym (answer_sized whole plain is.stands call (reads_served call reads uses))
 claimed-read (Some map) whole plain call reply is reads uses sized tells = tells ∙ sym (read_told map whole plain is.bytes call reads uses)
 
 made-read : (told now : Option BlockMap) (whole : State FileBlocks) (plain : State (List ℕ)) (call : Call) (reply : Reply) → now ≡ told → IsPlain told whole plain → is_modifying call ≡ false → uses_store call ≡ true
@@ -118,7 +151,7 @@ module _ (told : Option BlockMap) (whole : State FileBlocks) (plain : State (Lis
   module _ (call : Call) (tests : Asked (Place × FileBlocks)) (offset len : ℕ) (found : Place × FileBlocks) (is_found : tests ≡ Ok found) (reads : is_modifying call ≡ false) (uses : uses_store call ≡ true)
       (asks : (files : Files FileBlocks) → asked files whole call ≡ (tests >>= λ at. Ok (page_at files offset len at))) where
     answered : (files : Files FileBlocks) → answer_by files whole call ≡ page_at files offset len found
-    answered files = ap told_of (asks files ∙ ap (λ (a : Asked (Place × FileBlocks)). a >>= λ at. Ok (page_at files offset len at)) is_found)
+    answered files = ap reply_to (asks files ∙ ap (λ (a : Asked (Place × FileBlocks)). a >>= λ at. Ok (page_at files offset len at)) is_found)
 
     page-made : (now : Option BlockMap) (reply : Reply) → now ≡ told → blanked reply ≡ page_at block_files offset len found → IfSome told (λ map. reply ≡ page_at (telling map) offset len found)
         → IsPlain told whole plain → IsMade told now whole call reply plain
@@ -129,7 +162,7 @@ module _ (told : Option BlockMap) (whole : State FileBlocks) (plain : State (Lis
         by_map (Some map) t = t ∙ sym (answered (telling map))
 
     page-store : (error : StoreErr) (fault : AskFault) → fault ≡ fault_of error → IsPlain told whole plain → IsCause plain call fault
-    page-store error fault fault_is is = cause-store told whole plain call error fault fault_is uses (ap is_ok_reply (answered block_files)) is
+    page-store error fault fault_is is = cause-store told whole plain call error fault (reads_served call reads uses) fault_is uses (ap is_ok_reply (answered block_files)) is
 
   pub read-made : (text : List ℕ) (offset len : ℕ) (found : Place × FileBlocks) (now : Option BlockMap) (reply : Reply) → found_file whole text ≡ Ok found → now ≡ told → blanked reply ≡ page_at block_files offset len found
       → IfSome told (λ map. reply ≡ page_at (telling map) offset len found) → IsPlain told whole plain → IsMade told now whole (calls.Read text offset len) reply plain
@@ -150,22 +183,22 @@ module _ (told : Option BlockMap) (whole : State FileBlocks) (plain : State (Lis
 module _ (told : Option BlockMap) (greatest : ℕ) (whole : State FileBlocks) (waiting : List BlockId) (kept : IsKept told greatest whole waiting) where
   module _ (text : List ℕ) (found : Place × FileBlocks) (is_found : found_file whole text ≡ Ok found) where
     pub read-file : IsFile found.1.size found.1.blocks
-    read-file = found_file-so IsFileBody whole text found kept.no_snapshots kept.blocks.files.listed is_found
+    read-file = found_file-so IsFileBody whole text found kept.bare.no_snapshots kept.blocks.files.listed is_found
 
     pub read-held : IfSome told (λ map. HoldsFile map found.1.size found.1.blocks)
     read-held = at told kept.blocks.files.held
       where
         at : (o : Option BlockMap) → IfSome o (λ map. AllByRecursion (λ place. HoldsBody map place.1.body) whole.tree) → IfSome o (λ map. HoldsFile map found.1.size found.1.blocks)
         at None held = tt
-        at (Some map) held = found_file-so (HoldsBody map) whole text found kept.no_snapshots held is_found
+        at (Some map) held = found_file-so (HoldsBody map) whole text found kept.bare.no_snapshots held is_found
 
   module _ (place : Place) (found : Place × FileBlocks) (is_found : next_file whole place ≡ Ok found) where
     pub next-file : IsFile found.1.size found.1.blocks
-    next-file = next_file-so IsFileBody whole place found kept.no_snapshots kept.blocks.files.listed is_found
+    next-file = next_file-so IsFileBody whole place found kept.bare.no_snapshots kept.blocks.files.listed is_found
 
     pub next-held : IfSome told (λ map. HoldsFile map found.1.size found.1.blocks)
     next-held = at told kept.blocks.files.held
       where
         at : (o : Option BlockMap) → IfSome o (λ map. AllByRecursion (λ place. HoldsBody map place.1.body) whole.tree) → IfSome o (λ map. HoldsFile map found.1.size found.1.blocks)
         at None held = tt
-        at (Some map) held = next_file-so (HoldsBody map) whole place found kept.no_snapshots held is_found
+        at (Some map) held = next_file-so (HoldsBody map) whole place found kept.bare.no_snapshots held is_found

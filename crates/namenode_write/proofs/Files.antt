@@ -6,14 +6,15 @@ use Rattle.std.proofs.lemmas.Bool.Decides.{leb_tells}
 use mathlib.Core.Logic.{⊎_elim}
 use Rattle.std.proofs.lemmas.Simd.{splat_is_map}
 use Rattle.hs_types.specs.Paths.{path_of}
-use Rattle.hs_types.specs.Blocks.{BlockMap, IsFile, HoldsFile, find, bytes_of, joined, file_bytes, block_size}
+use Rattle.hs_types.specs.Blocks.{BlockMap, IsFile, HoldsFile, find, bytes_of, joined, file_bytes}
+use Rattle.hs_types.specs.Limits.{block_size}
 use Rattle.hs_types.specs.declared.ids.BlockId.{BlockId}
 use Rattle.hs_types.specs.declared.ids.InodeId.{InodeId}
 use Rattle.hs_types.specs.declared.call.Place.{Place}
 use Rattle.hs_types.specs.declared.call.Place.TheVariants as places
-use Rattle.hs_types.specs.declared.call.Reply.TheVariants as replies
+use Rattle.hs_types.specs.declared.reply.Reply.TheVariants as replies
 use Rattle.hs_types.specs.declared.call.ReadCursor.{ReadCursor}
-use Rattle.hs_types.specs.declared.call.Refusal.TheVariants.{NotFound, NotFile, Gone}
+use Rattle.hs_types.specs.declared.refusal.Refusal.TheVariants.{NotFound, NotFile, Gone}
 use Rattle.hs_plain.specs.declared.state.Body.{Body}
 use Rattle.hs_plain.specs.declared.state.Body.TheVariants.{File, Dir}
 use Rattle.hs_plain.specs.declared.state.Member.{Member}
@@ -21,9 +22,12 @@ use Rattle.hs_plain.specs.declared.state.State.{State}
 use Rattle.hs_plain.specs.declared.state.FileBlocks.{FileBlocks}
 use Rattle.hs_plain.specs.Asked.{Asked, ◌>>=◌, refuse_if}
 use Rattle.hs_plain.specs.Files.{block_files, zeros}
-use Rattle.hs_plain.specs.Tree.{Tree}
-use Rattle.hs_plain.specs.State.{resolve, same_inode, is_snapshottable, member_with, place_of}
-use Rattle.hs_plain.specs.Answer.{file_in, file_there, file_at, found_file, next_file, is_gone, next_read, page_at, blank, blanked}
+use Rattle.hs_plain.specs.Tree.{Tree, same_inode, place_of}
+use Rattle.hs_plain.specs.State.{resolve, is_snapshottable, member_with}
+use Rattle.hs_plain.specs.Modifying.{file_in}
+use Rattle.hs_plain.specs.Reading.{file_there, file_at, found_file, next_file, is_gone, page_at}
+use Rattle.hs_plain.specs.Pages.{next_read}
+use Rattle.hs_plain.specs.Answer.{blank, blanked}
 use Rattle.hs_plain.specs.Viewed.{bytes_in}
 use Rattle.hs_plain.proofs.ValidAsked.{same_ok, ok_then}
 use Rattle.block_contents.proofs.Whole.{holds_least}

@@ -4,7 +4,8 @@ use Rattle.std.specs.Prelude.{nat_lt, is_some, is_err, IsErrOf, OnOk, OnErr}
 use Rattle.std.specs.Option.{unwrap_or, option_to_list}
 use Rattle.std.proofs.lemmas.Bool.Decides.{nat_tests}
 use Rattle.std.proofs.lemmas.List.Sums.{sum_by_push}
-use Rattle.hs_types.specs.Blocks.{BlockMap, block_size, find, bytes_of, joined, Holds, HoldsFile, same_block}
+use Rattle.hs_types.specs.Blocks.{BlockMap, find, bytes_of, joined, Holds, HoldsFile, same_block}
+use Rattle.hs_types.specs.Limits.{block_size}
 use Rattle.hs_types.specs.declared.ids.BlockId.{BlockId}
 use Rattle.hs_plain.specs.declared.state.Node.{Node}
 use Rattle.hs_plain.specs.declared.state.Body.{Body}
@@ -15,7 +16,7 @@ use Rattle.hs_plain.specs.declared.state.FileBlocks.{FileBlocks}
 use Rattle.hs_plain.specs.Tree.{Tree}
 use Rattle.hs_plain.specs.Viewed.{viewed_body, viewed_place, viewed_tree, viewed_member, bytes_in}
 use Rattle.block_store.specs.Changes.{Changes, Sets}
-use Rattle.block_store.specs.Faults.{Rose}
+use Rattle.hs_types.specs.Faults.{Rose}
 use Rattle.block_store.specs.declared.store.StoreErr.{StoreErr}
 use Rattle.block_store.specs.declared.store.StoreErr.TheVariants.{Failed, NoMemory}
 use Rattle.block_contents.proofs.Told.{changes_map, changes_then, changes_same, told_after}
@@ -145,15 +146,14 @@ freed_kept told now greatest state rest block kept sets =
         known = λ other above. let push = times-push other block rest in let known = kept.blocks.known other above in omega arith;
         there = told_after (λ a b. (other : BlockId) → is_some (find b other) ≡ nat_lt 0 (uses other tree + times other rest)) (λ b. (other : BlockId) → is_some (find b other) ≡ nat_lt 0 (uses other tree + times other rest)) told now (λ a b all. all) there;
       };
-      no_snapshots = kept.no_snapshots;
-      live = kept.live;
+      bare = kept.bare;
     }
 
 pub freed_same : (told now : Option BlockMap) (greatest : ℕ) (state : State FileBlocks) (rest : List BlockId) (block : BlockId) → IsKept told greatest state (rest ++ block ∷ []) → Changes told now (Sets block None) → Changes told now (SameBytes state)
 freed_same told now greatest state rest block kept sets =
     let none : uses block state.tree + times block rest ≡ 0 = alone block state.tree rest (kept.blocks.once block) in
     let unnamed : uses block state.tree ≡ 0 = omega arith in
-    changes_map (λ map. AllBodies (HoldsBody map) state.tree) (Sets block None) (SameBytes state) told now (λ a b all set. same_state a b state kept.no_snapshots (tree_viewed block a b set state.tree unnamed)) kept.blocks.files.held sets
+    changes_map (λ map. AllBodies (HoldsBody map) state.tree) (Sets block None) (SameBytes state) told now (λ a b all set. same_state a b state kept.bare.no_snapshots (tree_viewed block a b set state.tree unnamed)) kept.blocks.files.held sets
 
 pub freeing_goes_on : (before told now : Option BlockMap) (greatest given from between to : ℕ) (state : State FileBlocks) (waiting rest : List BlockId) (block : BlockId) → IsFreeing before told greatest from between state waiting
     → waiting ≡ rest ++ block ∷ [] → Changes told now (Sets block None) → given ≡ greatest → between ≤ to → IsFreeing before now given from to state rest

@@ -8,8 +8,8 @@ use Rattle.hs_types.specs.Blocks.{BlockMap, find}
 use Rattle.hs_types.specs.declared.ids.BlockId.{BlockId}
 use Rattle.hs_types.specs.declared.call.Call.{Call}
 use Rattle.hs_types.specs.declared.call.Call.TheVariants as calls
-use Rattle.hs_types.specs.declared.call.Refusal.{Refusal}
-use Rattle.hs_types.specs.declared.call.Refusal.TheVariants.{Exists}
+use Rattle.hs_types.specs.declared.refusal.Refusal.{Refusal}
+use Rattle.hs_types.specs.declared.refusal.Refusal.TheVariants.{Exists}
 use Rattle.hs_plain.specs.declared.state.Node.{Node}
 use Rattle.hs_plain.specs.declared.state.Body.{Body}
 use Rattle.hs_plain.specs.declared.state.Body.TheVariants.{File, Dir}
@@ -19,34 +19,29 @@ use Rattle.hs_plain.specs.Asked.{refuse_if}
 use Rattle.hs_plain.specs.Files.{Files, block_files}
 use Rattle.hs_plain.specs.State.{new_dir}
 use Rattle.hs_plain.specs.Tree.{Tree, path_cmp, node_at, parent_of, walks_above}
-use Rattle.hs_plain.specs.Valid.{IsLive}
-use Rattle.hs_plain.specs.Answer.{live_path, mkdir_at, create_at, delete_at, rename_at, set_mode_at}
+use Rattle.hs_plain.specs.Modifying.{live_path, mkdir_at, create_at, delete_at, rename_at, set_mode_at}
 use Rattle.hs_plain.specs.Change.{restamp, stamped, remode, moded, without, moved, new_file, with_node, made_dir, made_file, removed, renamed, with_mode, if_asked, change}
 use Rattle.hs_plain.proofs.ValidTrees.{if_asked-keeps, sorted-stamped, restamp-kept}
-use Rattle.hs_plain.proofs.ValidShapes.{IsTree, is_dir_shape, none_some, by_last}
-use Rattle.hs_plain.proofs.ValidMoves.{to_apart}
-use Rattle.hs_plain.proofs.ValidNodes.{shape, shapes, dir_shape}
-use Rattle.hs_plain.proofs.ValidChanges.{moved_path, moved_under, moved_other}
-use Rattle.hs_plain.proofs.ValidAsked.{walked, MayMove, rename_allowed, lands_outside, ok_then, same_ok}
-use Rattle.hs_plain.proofs.Validity.{kept_so, live_from, kept-change}
+use Rattle.hs_plain.proofs.Trees.{moved-apart}
+use Rattle.hs_plain.proofs.ValidCalls.{free_below}
+use Rattle.hs_plain.proofs.ValidAsked.{MayMove, rename_allowed, ok_then, same_ok}
+use Rattle.hs_plain.proofs.ValidFollows.{live_tree}
 use Rattle.block_contents.proofs.Told.{told_map, on_both}
 use Rattle.namenode_write.specs.Kept.{blocks_of, times, uses, AreFiles, AreBlocks, blocks_at, blocks_under}
-use Rattle.namenode_write.specs.Consistent.{IsKept}
+use Rattle.namenode_write.specs.Consistent.{IsBare, IsKept}
+use Rattle.hs_plain.specs.Served.{is_served}
 use Rattle.namenode_write.specs.Made.{is_arranging}
+use Rattle.namenode_write.proofs.Bare.{bare-changed}
 use Rattle.namenode_write.proofs.Trees.{times-append, AllBodies, all-put, all-map, all-without, all-moved, files_by, restamp-body, remode-body, uses-map, at-map, uses-put, uses-without, uses-moved}
 
 -- ---- a valid state with its blocks
 
-pub kept_from : (told : Option BlockMap) (greatest : ℕ) (state : State FileBlocks) (waiting : List BlockId) → IsLive state → AreBlocks told greatest state.tree waiting → IsKept told greatest state waiting
-kept_from told greatest state waiting live blocks = record {
-  sorted = record { live = live.valid.sorted; copies = live.valid.copies_sorted };
+pub kept_from : (told : Option BlockMap) (greatest : ℕ) (state : State FileBlocks) (waiting : List BlockId) → IsBare state → AreBlocks told greatest state.tree waiting → IsKept told greatest state waiting
+kept_from told greatest state waiting bare blocks = record {
+  sorted = record { live = bare.valid.sorted; copies = bare.valid.copies_sorted };
   blocks = blocks;
-  no_snapshots = live.no_snapshots;
-  live = live;
+  bare = bare;
 }
-
-pub live-changed : {B : Type 0} (files : Files B) (state : State B) (call : Call) → IsLive state → IsLive (change files state call)
-live-changed files state call live = live_from _ (kept-change files state call (kept_so state live))
 
 -- each block is named or waits as often as before
 pub blocks_by : (told : Option BlockMap) (greatest : ℕ) (tree new : Tree FileBlocks) (waiting later : List BlockId) → AreBlocks told greatest tree waiting → AreFiles told new
@@ -83,21 +78,29 @@ files-with_node : (told : Option BlockMap) (state : State FileBlocks) (path : Na
 files-with_node told state path node here are = files_by told state.tree (with_node state path node).tree
     (λ P dir file all. all-put P path node (stamped state.tree (parent_of path) (state.tick + 1)) (here P dir file) (all-stamped P state.tree (parent_of path) (state.tick + 1) all)) are
 
--- no two nodes of a move come to one path
-apart_nodes : (tree : Tree FileBlocks) (next : ℕ) (old new : Names) → IsTree (shapes tree) next → MayMove tree old new
-    → (p q : Names) (a b : Node FileBlocks) → node_at tree p ≡ Some a → node_at tree q ≡ Some b → moved_path old new p ≡ moved_path old new q → p ≡ q
-apart_nodes tree next old new is may =
-    by_last (λ new. MayMove tree old new → (p q : Names) (a b : Node FileBlocks) → node_at tree p ≡ Some a → node_at tree q ≡ Some b → moved_path old new p ≡ moved_path old new q → p ≡ q) new
-    (λ may. absurd (none_some (ap (option_map shape) (sym may.free) ∙ is.root)))
-    (λ above name may.
-    let to : Names = above ++ name ∷ [] in
-    let parent : is_dir_shape (shapes tree above) ≡ true = dir_shape (node_at tree above) ∙ walked tree [] above name may.reached.0 may.reached.1 in
-    let free : shapes tree to ≡ None = ap (option_map shape) may.free in
-    λ p q a b pt qt d. to_apart (shapes tree) next is old to above name refl parent free may.below_root (lands_outside tree old to may) (moved_path old to) (moved_under old to) (moved_other old to)
-    p q (shape a) (shape b) (ap (option_map shape) pt) (ap (option_map shape) qt) d)
-    may
-
 -- ---- calls that touch no block
+
+arranging_served : (call : Call) → is_arranging call ≡ true → is_served call ≡ true
+arranging_served (calls.Mkdir path) is = refl
+arranging_served (calls.Create path over) is = absurd (cc)
+arranging_served (calls.Append path bytes) is = absurd (cc)
+arranging_served (calls.Delete path recursive) is = absurd (cc)
+arranging_served (calls.Rename old new) is = refl
+arranging_served (calls.SetMode path mode) is = refl
+arranging_served (calls.Read path offset len) is = absurd (cc)
+arranging_served (calls.ReadNext cursor len) is = absurd (cc)
+arranging_served (calls.Stat path) is = absurd (cc)
+arranging_served (calls.List path size) is = absurd (cc)
+arranging_served (calls.Allow path) is = absurd (cc)
+arranging_served (calls.Disallow path) is = absurd (cc)
+arranging_served (calls.Snap path name) is = absurd (cc)
+arranging_served (calls.SnapDel path name) is = absurd (cc)
+arranging_served (calls.SnapRen path old new) is = absurd (cc)
+arranging_served (calls.ListNext cursor size) is = absurd (cc)
+arranging_served (calls.Snaps path) is = absurd (cc)
+arranging_served calls.Dirs is = absurd (cc)
+arranging_served (calls.Report path from to size) is = absurd (cc)
+arranging_served (calls.ReportNext cursor size) is = absurd (cc)
 
 none_so : {X : Type 0} (o : Option X) → is_some o ≡ false → o ≡ None
 none_so None h = refl
@@ -135,7 +138,7 @@ module _ (told : Option BlockMap) (greatest : ℕ) (state : State FileBlocks) (w
       (λ block.
       let same : uses block last ≡ uses block state.tree =
       uses-stamped block two (parent_of new) t ∙ uses-stamped block one (parent_of old) t
-      ∙ uses-moved block old new state.tree kept.sorted.live (apart_nodes state.tree state.next_inode old new (kept_so state kept.live).tree may) in
+      ∙ uses-moved block old new state.tree kept.sorted.live (moved-apart state.tree old new kept.sorted.live (free_below state.tree state.next_inode new (live_tree state kept.bare.valid) may.free)) in
       ap (λ n. n + times block waiting) same)
 
   blocks-with_mode : (mode : ℕ) (path : Names) → AreBlocks told greatest (with_mode state mode path).tree waiting
@@ -148,7 +151,7 @@ module _ (told : Option BlockMap) (greatest : ℕ) (state : State FileBlocks) (w
   blocks-arranged : (call : Call) → is_arranging call ≡ true → AreBlocks told greatest (change block_files state call).tree waiting
   blocks-arranged (calls.Mkdir path) is = if_asked-keeps (λ (s : State FileBlocks). AreBlocks told greatest s.tree waiting) (made_dir state) state (mkdir_at state path) kept.blocks (λ p h. blocks-made_dir path p h)
   blocks-arranged (calls.Rename old new) is =
-      if_asked-keeps (λ (s : State FileBlocks). AreBlocks told greatest s.tree waiting) (renamed state) state (rename_at state old new) kept.blocks (λ paths h. blocks-moved paths.0 paths.1 (rename_allowed state old new paths h))
+      if_asked-keeps (λ (s : State FileBlocks). AreBlocks told greatest s.tree waiting) (renamed state) state (rename_at state old new) kept.blocks (λ paths h. blocks-moved paths.0 paths.1 (rename_allowed state old new paths h).moves)
   blocks-arranged (calls.SetMode path mode) is = if_asked-keeps (λ (s : State FileBlocks). AreBlocks told greatest s.tree waiting) (with_mode state mode) state (set_mode_at state path) kept.blocks (λ p h. blocks-with_mode mode p)
   blocks-arranged (calls.Create path over) is = absurd (cc)
   blocks-arranged (calls.Append path bytes) is = absurd (cc)
@@ -157,9 +160,19 @@ module _ (told : Option BlockMap) (greatest : ℕ) (state : State FileBlocks) (w
   blocks-arranged (calls.ReadNext cursor len) is = absurd (cc)
   blocks-arranged (calls.Stat path) is = absurd (cc)
   blocks-arranged (calls.List path size) is = absurd (cc)
+  blocks-arranged (calls.Allow path) is = absurd (cc)
+  blocks-arranged (calls.Disallow path) is = absurd (cc)
+  blocks-arranged (calls.Snap path name) is = absurd (cc)
+  blocks-arranged (calls.SnapDel path name) is = absurd (cc)
+  blocks-arranged (calls.SnapRen path old new) is = absurd (cc)
+  blocks-arranged (calls.ListNext cursor size) is = absurd (cc)
+  blocks-arranged (calls.Snaps path) is = absurd (cc)
+  blocks-arranged calls.Dirs is = absurd (cc)
+  blocks-arranged (calls.Report path from to size) is = absurd (cc)
+  blocks-arranged (calls.ReportNext cursor size) is = absurd (cc)
 
   pub kept-arranged : (call : Call) → is_arranging call ≡ true → IsKept told greatest (change block_files state call) waiting
-  kept-arranged call is = kept_from told greatest (change block_files state call) waiting (live-changed block_files state call kept.live) (blocks-arranged call is)
+  kept-arranged call is = kept_from told greatest (change block_files state call) waiting (bare-changed block_files state call (arranging_served call is) kept.bare) (blocks-arranged call is)
 
   -- ---- calls that give up blocks
 
@@ -169,7 +182,7 @@ module _ (told : Option BlockMap) (greatest : ℕ) (state : State FileBlocks) (w
       let node : Node FileBlocks = new_file block_files state.next_inode (state.tick + 1) in
       let given : List BlockId = blocks_at (node_at state.tree path) in
       kept_from told greatest (made_file block_files state path) (waiting ++ given)
-      (subst IsLive (ap (if_asked (made_file block_files state) state) h) (live-changed block_files state (calls.Create text over) kept.live))
+      (subst IsBare (ap (if_asked (made_file block_files state) state) h) (bare-changed block_files state (calls.Create text over) refl kept.bare))
       (blocks_by told greatest state.tree (made_file block_files state path).tree waiting (waiting ++ given) kept.blocks (files-with_node told state path node (λ P dir file. file) kept.blocks.files)
       (λ block.
       let sum = uses-with_node block state path node kept.sorted.live in
@@ -183,7 +196,7 @@ module _ (told : Option BlockMap) (greatest : ℕ) (state : State FileBlocks) (w
       let rest : Tree FileBlocks = without state.tree path in
       let t : ℕ = state.tick + 1 in
       kept_from told greatest (removed state path) (waiting ++ given)
-      (subst IsLive (ap (if_asked (removed state) state) h) (live-changed block_files state (calls.Delete text recursive) kept.live))
+      (subst IsBare (ap (if_asked (removed state) state) h) (bare-changed block_files state (calls.Delete text recursive) refl kept.bare))
       (blocks_by told greatest state.tree (stamped rest (parent_of path) t) waiting (waiting ++ given) kept.blocks
       (files_by told state.tree (stamped rest (parent_of path) t) (λ P dir file all. all-stamped P rest (parent_of path) t (all-without P path state.tree all)) kept.blocks.files)
       (λ block.

@@ -1,3 +1,4 @@
+pub mod Bare
 pub mod Appends
 pub mod Causes
 pub mod Files

@@ -16,8 +16,8 @@ use Rattle.hs_plain.specs.declared.state.Body.{Body}
 use Rattle.hs_plain.specs.declared.state.Body.TheVariants.{File, Dir}
 use Rattle.hs_plain.specs.declared.state.FileBlocks.{FileBlocks}
 use Rattle.hs_plain.specs.Files.{block_files}
-use Rattle.hs_plain.specs.Tree.{Tree, path_cmp, node_at, same_path}
-use Rattle.hs_plain.specs.Change.{restamp, remode, is_under, without, repath, put_all, moved}
+use Rattle.hs_plain.specs.Tree.{Tree, path_cmp, node_at, same_path, is_under}
+use Rattle.hs_plain.specs.Change.{restamp, remode, without, repath, put_all, moved}
 use Rattle.hs_plain.proofs.ValidTrees.{first, second, sorted-put}
 use Rattle.hs_plain.proofs.ValidShapes.{none_some}
 use Rattle.hs_plain.proofs.ValidPlaces.{missing_below, head_at, in_tail}

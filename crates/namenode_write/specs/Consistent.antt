@@ -2,23 +2,28 @@
 use Rattle.std.specs.Prelude.{◌≡◌, ℕ, ◌+◌, ◌≤◌, Bool, true, false, List, [], length, count_by, Option}
 use Rattle.hs_types.specs.Blocks.{BlockMap}
 use Rattle.hs_types.specs.declared.ids.BlockId.{BlockId}
-use Rattle.hs_types.specs.declared.call.EntryKind.{EntryKind}
-use Rattle.hs_types.specs.declared.call.EntryKind.TheVariants.{Accepted, Faulted}
-use Rattle.hs_types.specs.declared.call.Entry.{Entry}
+use Rattle.hs_types.specs.declared.journal.EntryKind.{EntryKind}
+use Rattle.hs_types.specs.declared.journal.EntryKind.TheVariants.{Accepted, Faulted}
+use Rattle.hs_types.specs.declared.journal.Entry.{Entry}
 use Rattle.hs_plain.specs.declared.state.State.{State}
 use Rattle.hs_plain.specs.declared.state.FileBlocks.{FileBlocks}
 use Rattle.hs_plain.specs.Replay.{plain_after, is_proper}
-use Rattle.hs_plain.specs.Valid.{IsSorted, IsLive}
+use Rattle.hs_plain.specs.Valid.{IsSorted, IsValid}
 use Rattle.namenode_write.specs.Kept.{AreBlocks}
 use Rattle.namenode_write.specs.Made.{IsPlain}
+
+-- a valid state in which nothing is snapshottable
+pub record IsBare {B : Type 0} (state : State B) : Type 0 where
+  pub valid : IsValid state
+  pub none_snapshottable : state.snapshottable ≡ []
+  pub no_snapshots : state.members ≡ []
 
 -- the state is in order, and its files' blocks are those of the store; no snapshot names one yet
 pub record IsKept (told : Option BlockMap) (greatest : ℕ) (state : State FileBlocks) (waiting : List BlockId) : Type 0 where
   pub sorted : IsSorted state
   pub blocks : AreBlocks told greatest state.tree waiting
-  pub no_snapshots : state.members ≡ []
   -- it is valid: no two places come to one path
-  pub live : IsLive state
+  pub bare : IsBare state
 
 abbrev pub is_faulted : EntryKind → Bool
 is_faulted Accepted = false

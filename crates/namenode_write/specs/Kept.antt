@@ -9,8 +9,7 @@ use Rattle.hs_plain.specs.declared.state.Body.{Body}
 use Rattle.hs_plain.specs.declared.state.Body.TheVariants.{File, Dir}
 use Rattle.hs_plain.specs.declared.state.State.{State}
 use Rattle.hs_plain.specs.declared.state.FileBlocks.{FileBlocks}
-use Rattle.hs_plain.specs.Tree.{Tree}
-use Rattle.hs_plain.specs.Change.{is_under}
+use Rattle.hs_plain.specs.Tree.{Tree, is_under}
 use Rattle.hs_plain.specs.Viewed.{viewed, bytes_in}
 
 -- the blocks of a file; a directory has none

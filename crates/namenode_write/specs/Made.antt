@@ -4,10 +4,10 @@ use Rattle.hs_types.specs.Blocks.{BlockMap}
 use Rattle.hs_types.specs.Refusals.{number_of}
 use Rattle.hs_types.specs.declared.call.Call.{Call}
 use Rattle.hs_types.specs.declared.call.Call.TheVariants as calls
-use Rattle.hs_types.specs.declared.call.Reply.{Reply}
-use Rattle.hs_types.specs.declared.call.Reply.TheVariants as replies
-use Rattle.hs_types.specs.declared.call.Refusal.{Refusal}
-use Rattle.hs_types.specs.declared.call.Refusal.TheVariants.{StoreFault}
+use Rattle.hs_types.specs.declared.reply.Reply.{Reply}
+use Rattle.hs_types.specs.declared.reply.Reply.TheVariants as replies
+use Rattle.hs_types.specs.declared.refusal.Refusal.{Refusal}
+use Rattle.hs_types.specs.declared.refusal.Refusal.TheVariants.{StoreFault}
 use Rattle.hs_plain.specs.declared.state.State.{State}
 use Rattle.hs_plain.specs.declared.state.FileBlocks.{FileBlocks}
 use Rattle.hs_plain.specs.declared.resolve.AskFault.{AskFault}

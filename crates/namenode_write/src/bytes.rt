@@ -1,18 +1,19 @@
 //! The calls that touch the bytes of a file.
 ghost use Rattle.std.specs.Prelude.{◌≡◌, ◌+◌, ◌<◌, ◌≤◌, ◌^◌, ℕ, List, false, length, is_some, IfSome, IfOk, IfErr, OnOk, OnErr, IsErrOf};
 ghost use Rattle.hs_types.specs.declared.call.Call.TheVariants as calls;
-ghost use Rattle.hs_types.specs.declared.call.Refusal.TheVariants.{StoreFault};
+ghost use Rattle.hs_types.specs.declared.refusal.Refusal.TheVariants.{StoreFault};
 ghost use Rattle.hs_plain.specs.declared.state.State.{State};
 ghost use Rattle.hs_plain.specs.declared.resolve.AskFault.TheVariants as faults;
 ghost use Rattle.hs_types.specs.Blocks.{IsFile, HoldsFile};
 ghost use Rattle.hs_plain.specs.Files.{block_files};
 ghost use Rattle.hs_plain.specs.Tree.{is_dir};
-ghost use Rattle.hs_plain.specs.Answer.{blanked, page_at as plain_page_at};
+ghost use Rattle.hs_plain.specs.Answer.{blanked};
+ghost use Rattle.hs_plain.specs.Reading.{page_at as plain_page_at};
 ghost use Rattle.hs_plain.specs.Change.{refilled};
 ghost use Rattle.hs_plain.specs.Viewed.{bytes_in};
 ghost use Rattle.block_store.specs.Changes.{Changes};
 ghost use Rattle.block_contents.specs.Contents.{AtMost, Adds, KeepsFile, MakesOnly};
-ghost use Rattle.block_store.specs.Faults.{Rose};
+ghost use Rattle.hs_types.specs.Faults.{Rose};
 ghost use Rattle.block_store.specs.declared.store.StoreErr.TheVariants as store_errors;
 ghost use Rattle.namenode_write.specs.Kept.{SameBytes};
 ghost use Rattle.namenode_write.specs.Consistent.{IsKept};

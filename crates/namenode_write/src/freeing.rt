@@ -3,7 +3,7 @@ ghost use Rattle.std.specs.Prelude.{◌≡◌, ◌+◌, ◌≤◌, ◌++◌, [],
 ghost use Rattle.std.specs.Option.{option_copied};
 ghost use Rattle.hs_plain.specs.Tree.{node_at as plain_node_at};
 ghost use Rattle.block_store.specs.Changes.{Changes};
-ghost use Rattle.block_store.specs.Faults.{Rose};
+ghost use Rattle.hs_types.specs.Faults.{Rose};
 ghost use Rattle.namenode_write.specs.Kept.{blocks_of as plain_blocks_of, blocks_at as plain_blocks_at, blocks_under as plain_blocks_under, SameBytes};
 ghost use Rattle.namenode_write.specs.Consistent.{IsKept};
 

@@ -7,6 +7,3 @@ pub mod namenode;
 mod namespace;
 
 pub use namenode::Namenode;
-
-#[cfg(test)]
-mod tests;

@@ -1,14 +1,15 @@
 //! The namenode, and the calls that change it.
-ghost use Rattle.std.specs.Prelude.{◌≡◌, ◌+◌, ◌≤◌, ◌<◌, ◌^◌, ◌++◌, true, false, [], ◌∷◌, length, is_some, None, Some, IfOk, IfSome, vec_len, vec_capacity};
+ghost use Rattle.std.specs.Prelude.{ℕ, ◌≡◌, ◌+◌, ◌≤◌, ◌<◌, ◌^◌, ◌++◌, true, false, [], ◌∷◌, length, is_some, None, Some, IfOk, IfSome, vec_len, vec_capacity};
 ghost use Rattle.std.specs.Option.{option_to_list};
-ghost use Rattle.hs_plain.specs.Answer.{answer, claimed, is_exclusive, is_ok_reply as is_plain_ok_reply, uses_store};
+ghost use Rattle.hs_plain.specs.Answer.{answer, claimed, is_exclusive, is_ok_reply as is_plain_ok_reply, uses_store, is_store_fault as is_plain_store_fault, is_plain_reply};
+ghost use Rattle.hs_plain.specs.Served.{is_served};
 ghost use Rattle.hs_plain.specs.Replay.{plain_after, is_proper};
 ghost use Rattle.hs_plain.specs.Valid.{IsSorted};
 ghost use Rattle.hs_plain.specs.Viewed.{StandsFor};
-ghost use Rattle.hs_plain.specs.Legal.{IsLegalCall, entry_left, entry_of as plain_entry_of, leaves_entry as plain_leaves_entry, is_store_fault as is_plain_store_fault, is_plain_reply};
-ghost use Rattle.hs_plain.specs.Lines.{tree_lines as plain_tree_lines, counts_of as plain_counts_of};
+ghost use Rattle.hs_plain.specs.Legal.{IsLegalCall, entry_left, entry_of as plain_entry_of, leaves_entry as plain_leaves_entry};
+ghost use Rattle.hs_plain.specs.Lines.{tree_lines as plain_tree_lines, live_counts as plain_counts_of};
 ghost use Rattle.block_store.specs.Changes.{Changes};
-ghost use Rattle.block_store.specs.Faults.{Rose};
+ghost use Rattle.hs_types.specs.Faults.{Rose};
 ghost use Rattle.namenode_write.specs.Consistent.{IsConsistent, fault_count};
 
 use crate::namespace::{Namespace, make_call};
@@ -123,8 +124,9 @@ fn do_in<B: BlockStore>(
     call: Call,
 ) -> Answered
     requires exclusive { is_exclusive call ≡ true }
+    requires served { is_served call ≡ true }
     requires consistent { IsConsistent (B.blocks namespace.old.store) (B.greatest namespace.old.store) (B.faults namespace.old.store) namespace.old.state namespace.old.waiting.items journal.old.items }
-    ensures legal { IsLegalCall (is_some (B.blocks namespace.new.store)) journal.new.items caller seq call result }
+    ensures legal { (limit : ℕ) → IsLegalCall (is_some (B.blocks namespace.new.store)) limit journal.new.items caller seq call result }
     ensures place { result.position ≡ length journal.old.items }
     ensures appended { journal.new.items ≡ journal.old.items ++ option_to_list (entry_left caller (record { seq = seq; call = call; told = result })) }
     ensures consistent { IsConsistent (B.blocks namespace.new.store) (B.greatest namespace.new.store) (B.faults namespace.new.store) namespace.new.state namespace.new.waiting.items journal.new.items }
@@ -186,10 +188,11 @@ impl<B: BlockStore> Namenode<B> {
     /// Answers an exclusive call, and enters it in the journal where it is accepted or meets a fault of the store. All
     /// room is made before anything changes: after `NoMemory` the namenode is as before, and the call is handed back.
     pub fn do_call(&mut self, caller: CallerId, seq: u64, call: Call) -> Answered
-        requires { is_exclusive call ≡ true }
+        requires exclusive { is_exclusive call ≡ true }
+        requires served { is_served call ≡ true }
 
-        // The answer is that of the plain machine at the end of the journal.
-        ensures legal { IsLegalCall (is_some (B.blocks self.new.store)) self.new.entries caller seq call result }
+        // The answer is that of the plain machine at the end of the journal, which has no limit yet.
+        ensures legal { (limit : ℕ) → IsLegalCall (is_some (B.blocks self.new.store)) limit self.new.entries caller seq call result }
         ensures place { result.position ≡ length self.old.entries }
 
         // The journal has this call's entry more, or is as before.

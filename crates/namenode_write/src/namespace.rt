@@ -1,15 +1,16 @@
 //! What a namenode holds beside its journal, and what exclusive calls make of it.
 ghost use Rattle.std.specs.Prelude.{◌≡◌, ◌+◌, ◌<◌, ◌≤◌, ◌^◌, ℕ, List, true, false, length, is_some, Ok, Err, IfOk, IfErr, OnOk, OnErr, IsErrOf};
 ghost use Rattle.hs_types.specs.declared.call.Call.TheVariants as calls;
-ghost use Rattle.hs_types.specs.declared.call.Refusal.TheVariants.{StoreFault};
+ghost use Rattle.hs_types.specs.declared.refusal.Refusal.TheVariants.{StoreFault};
 ghost use Rattle.hs_plain.specs.declared.state.State.{State};
 ghost use Rattle.hs_plain.specs.declared.resolve.AskFault.TheVariants as faults;
 ghost use Rattle.hs_plain.specs.Faults.{IsFaultOf};
 ghost use Rattle.hs_plain.specs.Files.{block_files};
 ghost use Rattle.hs_plain.specs.Answer.{asked, is_exclusive, uses_store};
+ghost use Rattle.hs_plain.specs.Served.{is_served};
 ghost use Rattle.hs_plain.specs.Change.{change};
 ghost use Rattle.block_store.specs.Changes.{Changes};
-ghost use Rattle.block_store.specs.Faults.{Rose};
+ghost use Rattle.hs_types.specs.Faults.{Rose};
 ghost use Rattle.namenode_write.specs.Kept.{SameBytes};
 ghost use Rattle.namenode_write.specs.Consistent.{IsKept};
 ghost use Rattle.namenode_write.specs.Made.{is_arranging, IsPlain, IsMade, IsCause};
@@ -126,6 +127,7 @@ fn change_tree<B: BlockStore>(
     call: &Call,
 ) -> Result<Reply, AskFault>
     requires exclusive { is_exclusive call.now ≡ true }
+    requires served { is_served call.now ≡ true }
     requires storeless { uses_store call.now ≡ false }
     requires kept { IsKept (B.blocks namespace.old.store) (B.greatest namespace.old.store) namespace.old.state namespace.old.waiting.items }
     requires ticks { namespace.old.state.tick + 1 < 2 ^ 64 }
@@ -156,6 +158,7 @@ pub(crate) fn make_call<B: BlockStore>(
     call: &Call,
 ) -> Result<Reply, AskFault>
     requires exclusive { is_exclusive call.now ≡ true }
+    requires served { is_served call.now ≡ true }
     requires kept { IsKept (B.blocks namespace.old.store) (B.greatest namespace.old.store) namespace.old.state namespace.old.waiting.items }
     requires ticks { namespace.old.state.tick + 1 < 2 ^ 64 }
     requires inodes { namespace.old.state.next_inode + 1 < 2 ^ 64 }

@@ -5,8 +5,8 @@ use Rattle.std.specs.List.{list_all}
 use Rattle.std.specs.FinMap.Entries.{is_sorted}
 use Rattle.hs_types.specs.declared.ids.InodeId.{InodeId}
 use Rattle.hs_plain.specs.declared.state.Member.{Member}
-use Rattle.hs_plain.specs.Tree.{path_cmp}
-use Rattle.hs_plain.specs.State.{same_inode, member_named}
+use Rattle.hs_plain.specs.Tree.{path_cmp, same_inode}
+use Rattle.hs_plain.specs.State.{member_named}
 use Rattle.hs_plain.proofs.ValidTrees.{first, second}
 
 pub member_named-sorted : {B : Type 0} (members : List (Member B)) (directory : InodeId) (name : List ℕ) (member : Member B) →

@@ -40,6 +40,3 @@ pub fn resolve<B>(state: &State<B>, path: &Path) -> Result<Place, Refusal>
         }
     }
 }
-
-#[cfg(test)]
-mod tests;

@@ -8,7 +8,7 @@ use mathlib.Core.List.{IsPrefix}
 use native.Mathlib.Decide.{ℕ_discrete}
 use prog.Atomic.{either}
 use lib.ListN.{get_elem?}
-use Rattle.hs_types.specs.declared.call.Entry.{Entry}
+use Rattle.hs_types.specs.declared.journal.Entry.{Entry}
 use Rattle.atomic_table.specs.Table.{State, Me, step, keeps, gives, takes, Allows, opening}
 use Rattle.atomic_table.proofs.Lists.{at_set, set_here, exchanged}
 use Rattle.turn_lock.specs.declared.view.View.{View}

@@ -1,7 +1,7 @@
 -- Histories: lists of journal entries, as a lock's value carries them.
 use Rattle.std.specs.Prelude.{◌≡◌, ◌==◌, ℕ, Bool, List, ◌++◌, length, nat_lt, if◌then◌else◌, All, filter}
 use mathlib.Core.List.{IsPrefix}
-use Rattle.hs_types.specs.declared.call.Entry.{Entry}
+use Rattle.hs_types.specs.declared.journal.Entry.{Entry}
 
 -- the number of the caller who made the entry
 abbrev pub caller_of : Entry → ℕ

@@ -1,6 +1,6 @@
 //! What a lock asks of its value, and of the work that is done on it.
 ghost use Rattle.std.specs.Prelude.{◌≡◌, ℕ, List, length};
-ghost use Rattle.hs_types.specs.declared.call.Entry.{Entry};
+ghost use Rattle.hs_types.specs.declared.journal.Entry.{Entry};
 
 /// A value that carries a history.
 pub trait Historied: Drop {

@@ -1,336 +1,272 @@
+//! Lines that no script leads to yet: each is written by a helper that makes one value and lends it.
 use super::*;
-use crate::ran::{End, Status};
+use block_store::SteadyBlocks;
+use hs_plain::answer::is_exclusive;
 use hs_types::{
-    CallerId, Chunk, Counts, InodeId, ListCursor, NameText, PageSize, PathText, Refusal, SnapId,
+    CallerId, Chunk, InodeId, ListCursor, NameText, PageSize, PathText, Refusal, SnapId,
 };
+use namenode_write::Namenode;
 use std::test::Fail;
 
-const NO_COUNTS: Counts = Counts {
-    rows: 0,
-    records: 0,
-    list_entries: 0,
-    snapshots: 0,
-    blocks: 0,
-};
-
-fn name_of(alloc: Global, text: &str) -> Result<Name, Fail> {
+fn name_of(alloc: Global, text: &str) -> Result<Name, NoMemory> {
     let text = NameText::new(String::from_str(alloc, text)?);
-    Ok(Name::read(alloc, &text)?)
+    Name::read(alloc, &text).map_err(|_| NoMemory)
 }
 
-fn path_of(alloc: Global, text: &str) -> Result<PathText, Fail> {
+fn path_of(alloc: Global, text: &str) -> Result<PathText, NoMemory> {
     Ok(PathText::new(String::from_str(alloc, text)?))
 }
 
-fn mkdir(alloc: Global, path: &str) -> Result<Call, Fail> {
-    Ok(Call::Mkdir {
-        path: path_of(alloc, path)?,
-    })
+fn chunk_of(alloc: Global, bytes: &[u8]) -> Result<Chunk, NoMemory> {
+    Chunk::new(Vec::from_slice(alloc, bytes)?).map_err(|_| NoMemory)
 }
 
-fn list_root(alloc: Global) -> Result<Call, Fail> {
-    Ok(Call::List {
-        path: path_of(alloc, "/")?,
-        size: PageSize::new(1000).ok_or("a page size")?,
-    })
-}
+// ---- replies
 
-fn entry(seq: u64, call: Call) -> Entry {
-    Entry {
-        caller: CallerId(0),
-        seq,
-        kind: EntryKind::Accepted,
-        call,
-    }
-}
-
-fn dir_node(depth: u64, id: u64, stamp: u64, size: u64, name: Option<Name>) -> TreeLine {
-    TreeLine {
-        depth,
+fn push_item(alloc: Global, items: &mut List<Item>, id: u64, text: &str) -> Result<(), NoMemory> {
+    items.push(Item {
+        name: name_of(alloc, text)?,
         id: InodeId(id),
-        is_dir: true,
-        mode: Mode::of_directory(),
-        stamp,
-        size,
-        name,
-    }
-}
-
-fn dir_item(id: u64, name: Name) -> Item {
-    Item {
-        name,
-        id: InodeId(id),
-        is_dir: true,
-    }
-}
-
-fn end_of(tree: Vec<TreeLine>) -> End {
-    End {
-        tree: List::of(tree),
-        counts: NO_COUNTS,
-    }
-}
-
-fn log_of(section: Section, items: Vec<LogItem>) -> ClientLog {
-    ClientLog {
-        section,
-        items: List::of(items),
-    }
-}
-
-fn replied(alloc: Global, line: u32, side: Side, answered: Answered) -> Result<LogItem, Fail> {
-    Ok(LogItem {
-        line,
-        what: LogWhat::Replies {
-            side,
-            list: List::of(vec![in alloc; answered]?),
-        },
+        is_dir: id > 9,
     })
 }
 
-/// The script `s mkdir /a`, `s ls /`, run in setup.
-fn smallest_run(alloc: Global) -> Result<Ran, Fail> {
-    let made = Answered {
-        reply: Reply::Made { id: InodeId(2) },
-        position: 0,
-        back: None,
-    };
-    let listed = Answered {
-        reply: Reply::Page {
-            items: List::of(vec![in alloc; dir_item(2, name_of(alloc, "a")?)]?),
-            next: None,
-        },
-        position: 1,
-        back: Some(list_root(alloc)?),
-    };
-    let made = replied(alloc, 1, Side::Source, made)?;
-    let listed = replied(alloc, 2, Side::Source, listed)?;
-    let setup = log_of(Section::Setup, vec![in alloc; made, listed]?);
-    let finish = log_of(Section::Finish, Vec::new(alloc));
-    let root = dir_node(0, 1, 1, 1, None);
-    let below = dir_node(1, 2, 1, 0, Some(name_of(alloc, "a")?));
-    Ok(Ran {
-        status: Status::Ok,
-        source: List::of(vec![in alloc; entry(1, mkdir(alloc, "/a")?)]?),
-        target: List::new(alloc),
-        logs: List::of(vec![in alloc; setup, finish]?),
-        source_end: end_of(vec![in alloc; root, below]?),
-        target_end: end_of(vec![in alloc; dir_node(0, 1, 0, 0, None)]?),
-    })
+fn items_of(alloc: Global) -> Result<List<Item>, NoMemory> {
+    let mut items = List::new(alloc);
+    push_item(alloc, &mut items, 3, "a #")?;
+    push_item(alloc, &mut items, 14, "\u{e9}%")?;
+    Ok(items)
 }
 
-#[test]
-fn smallest_run_prints_as_written(rt: HostRuntime) -> Result<(), Fail> {
-    let ran = smallest_run(rt.alloc())?;
-    let text = text_of(rt.alloc(), &ran)?;
-    let wanted = "setup\n\
-        1 s@0 made 2\n\
-        2 s@1 page 1 end\n  dir 2 a\n\
-        finish\n\
-        journal s 1\n\
-        0 0.1 mkdir /a\n\
-        journal t 0\n\
-        tree s 2\n\
-        0 dir 1 0755 1 /\n\
-        1 dir 2 0755 1 a\n\
-        tree t 1\n\
-        0 dir 1 0755 0 /\n";
-    assert_eq!(rt; text.items(), wanted.as_bytes());
-    Ok(())
+/// A page with more behind it.
+fn page_of(items: List<Item>) -> Reply {
+    let place = Place::Live(InodeId(1));
+    Reply::Page {
+        items,
+        next: Some(ListCursor { place, after: None }),
+    }
 }
 
-fn empty_run(alloc: Global) -> Result<Ran, Fail> {
-    let setup = log_of(Section::Setup, Vec::new(alloc));
-    let finish = log_of(Section::Finish, Vec::new(alloc));
-    Ok(Ran {
-        status: Status::Ok,
-        source: List::new(alloc),
-        target: List::new(alloc),
-        logs: List::of(vec![in alloc; setup, finish]?),
-        source_end: end_of(vec![in alloc; dir_node(0, 1, 0, 0, None)]?),
-        target_end: end_of(vec![in alloc; dir_node(0, 1, 0, 0, None)]?),
-    })
-}
-
-#[test]
-fn empty_run_prints_both_roots(rt: HostRuntime) -> Result<(), Fail> {
-    let ran = empty_run(rt.alloc())?;
-    let text = text_of(rt.alloc(), &ran)?;
-    let wanted = "setup\n\
-        finish\n\
-        journal s 0\n\
-        journal t 0\n\
-        tree s 1\n\
-        0 dir 1 0755 0 /\n\
-        tree t 1\n\
-        0 dir 1 0755 0 /\n";
-    assert_eq!(rt; text.items(), wanted.as_bytes());
-    Ok(())
-}
-
-/// A page of two items, with more behind it.
-fn page_of_two(alloc: Global) -> Result<Reply, Fail> {
-    let file = Item {
-        name: name_of(alloc, "a #")?,
-        id: InodeId(3),
-        is_dir: false,
-    };
-    let dir = dir_item(14, name_of(alloc, "é%")?);
-    Ok(Reply::Page {
-        items: List::of(vec![in alloc; file, dir]?),
-        next: Some(ListCursor {
-            place: Place::Live(InodeId(1)),
-            after: None,
-        }),
-    })
-}
-
-fn replied_with(alloc: Global, line: u32, reply: Reply) -> Result<LogItem, Fail> {
+fn write_target_reply(out: &mut String, reply: Reply) -> Result<(), NoMemory> {
     let answered = Answered {
         reply,
         position: 9,
         back: None,
     };
-    replied(alloc, line, Side::Target, answered)
+    write_answered(out, 4, Side::Target, &answered)
 }
 
-fn other_logs(alloc: Global) -> Result<List<ClientLog>, Fail> {
-    let page = replied_with(alloc, 4, page_of_two(alloc)?)?;
-    let refused = replied_with(alloc, 5, Reply::Refused(Refusal::Exists))?;
-    let client = log_of(Section::Client(12), vec![in alloc; page, refused]?);
-    let no_memory = replied_with(alloc, 6, Reply::NoMemory)?;
-    let finish = log_of(Section::Finish, vec![in alloc; no_memory]?);
-    Ok(List::of(vec![in alloc; client, finish]?))
+fn bytes_reply(alloc: Global, bytes: &[u8]) -> Result<Reply, NoMemory> {
+    Ok(Reply::Bytes {
+        bytes: chunk_of(alloc, bytes)?,
+        next: None,
+    })
 }
 
-fn other_journal(alloc: Global) -> Result<List<Entry>, Fail> {
-    let path = path_of(alloc, "/r/é/a b")?;
-    let made = entry(2, Call::Create { path, over: true });
-    let old = path_of(alloc, "/a%")?;
-    let new = path_of(alloc, "/#")?;
-    let moved = entry(3, Call::Rename { old, new });
-    let faulted = Entry {
+fn write_replies_of_target(alloc: Global, out: &mut String) -> Result<(), NoMemory> {
+    write_heading(out, Section::Client(12))?;
+    write_target_reply(out, page_of(items_of(alloc)?))?;
+    write_target_reply(out, Reply::Refused(Refusal::Exists))?;
+    write_target_reply(out, Reply::NoMemory)?;
+    write_target_reply(out, bytes_reply(alloc, b"\x00 #%\x7F\xFFz/")?)
+}
+
+#[test]
+fn replies_of_the_target_are_written(rt: HostRuntime) -> Result<(), Fail> {
+    let mut out = String::new(rt.alloc());
+    write_replies_of_target(rt.alloc(), &mut out)?;
+    let text = "client 12\n\
+        4 t@9 page 2 more\n  file 3 a%20%23\n  dir 14 %C3%A9%25\n\
+        4 t@9 refused 9 Exists\n\
+        4 t@9 no memory\n\
+        4 t@9 bytes 8 end %00%20%23%25%7F%FFz/\n";
+    assert_eq!(rt; out.as_str(), text);
+    Ok(())
+}
+
+// ---- entries
+
+fn write_made(out: &mut String, kind: EntryKind, call: Call) -> Result<(), NoMemory> {
+    let entry = Entry {
         caller: CallerId(3),
         seq: 10,
-        kind: EntryKind::Faulted,
-        call: list_root(alloc)?,
+        kind,
+        call,
     };
-    Ok(List::of(vec![in alloc; made, moved, faulted]?))
+    write_entry(out, 2, &entry)
 }
 
-fn file_node(alloc: Global) -> Result<TreeLine, Fail> {
-    Ok(TreeLine {
-        depth: 2,
-        id: InodeId(5),
-        is_dir: false,
-        mode: Mode::new(0o7).ok_or("a mode")?,
-        stamp: 6,
-        size: 70,
-        name: Some(name_of(alloc, "x\u{7F}")?),
+fn rename(alloc: Global, old: PathText, new: &str) -> Result<Call, NoMemory> {
+    Ok(Call::Rename {
+        old,
+        new: path_of(alloc, new)?,
     })
 }
 
-/// Lines of the kinds that the smallest run lacks.
-fn other_run(alloc: Global) -> Result<Ran, Fail> {
-    let dir = dir_node(1, 14, 3, 1, Some(name_of(alloc, "é%")?));
-    Ok(Ran {
-        status: Status::Ok,
-        source: List::new(alloc),
-        target: other_journal(alloc)?,
-        logs: other_logs(alloc)?,
-        source_end: end_of(vec![in alloc; file_node(alloc)?]?),
-        target_end: end_of(vec![in alloc; dir]?),
-    })
-}
-
-#[test]
-fn names_are_escaped_and_pages_go_on(rt: HostRuntime) -> Result<(), Fail> {
-    let ran = other_run(rt.alloc())?;
-    let text = text_of(rt.alloc(), &ran)?;
-    let wanted = "client 12\n\
-        4 t@9 page 2 more\n  file 3 a%20%23\n  dir 14 %C3%A9%25\n\
-        5 t@9 refused 9 Exists\n\
-        finish\n\
-        6 t@9 no memory\n\
-        journal s 0\n\
-        journal t 3\n\
-        0 0.2 createover /r/%C3%A9/a%20b\n\
-        1 0.3 mv /a%25 /%23\n\
-        2 3.10 fault list\n\
-        tree s 1\n\
-        2 file 5 0007 6 70 x%7F\n\
-        tree t 1\n\
-        1 dir 14 0755 3 %C3%A9%25\n";
-    assert_eq!(rt; text.items(), wanted.as_bytes());
-    Ok(())
-}
-
-fn call_text(alloc: Global, call: &Call) -> Result<String, Fail> {
-    let mut out = String::new(alloc);
-    write_call(&mut out, call)?;
-    Ok(out)
-}
-
-fn chunk_of(alloc: Global, bytes: &[u8]) -> Result<Chunk, Fail> {
-    match Chunk::new(Vec::from_slice(alloc, bytes)?) {
-        Ok(chunk) => Ok(chunk),
-        Err(_) => Err("a chunk".into()),
-    }
-}
-
-#[test]
-fn bytes_stand_last_and_escaped(rt: HostRuntime) -> Result<(), Fail> {
-    let alloc = rt.alloc();
-    for (bytes, append, page) in [
-        (b"".as_slice(), "append /a%20b 0\n", "bytes 0 end\n"),
-        (
-            b"\x00 #%\x7F\xFFz/",
-            "append /a%20b 8 %00%20%23%25%7F%FFz/\n",
-            "bytes 8 end %00%20%23%25%7F%FFz/\n",
-        ),
-    ] {
-        let path = path_of(alloc, "/a b")?;
-        let call = Call::Append {
-            path,
-            bytes: chunk_of(alloc, bytes)?,
-        };
-        assert_eq!(rt; call_text(alloc, &call)?.as_str(), append);
-        let bytes = chunk_of(alloc, bytes)?;
-        let mut out = String::new(alloc);
-        write_reply(&mut out, &Reply::Bytes { bytes, next: None })?;
-        assert_eq!(rt; out.as_str(), page);
-    }
-    Ok(())
-}
-
-#[test]
-fn reads_print_their_numbers(rt: HostRuntime) -> Result<(), Fail> {
-    let alloc = rt.alloc();
-    let len = ReadLen::new(7).ok_or("a length")?;
-    let path = path_of(alloc, "/a b")?;
-    let read = Call::Read {
+fn append(alloc: Global, path: PathText, bytes: &[u8]) -> Result<Call, NoMemory> {
+    Ok(Call::Append {
         path,
-        offset: 5,
-        len,
-    };
-    assert_eq!(rt; call_text(alloc, &read)?.as_str(), "read /a%20b 5 7\n");
-    for (place, text) in [
-        (Place::Live(InodeId(2)), "readnext live 2 65536 7\n"),
-        (
-            Place::Frozen(InodeId(3), SnapId(4)),
-            "readnext frozen 3 4 65536 7\n",
-        ),
-        (
-            Place::SnapshotsOf(InodeId(5)),
-            "readnext snapshots 5 65536 7\n",
-        ),
-    ] {
-        let cursor = ReadCursor {
+        bytes: chunk_of(alloc, bytes)?,
+    })
+}
+
+fn read_len() -> ReadLen {
+    match ReadLen::new(7) {
+        Some(len) => len,
+        None => unreachable!(),
+    }
+}
+
+fn read_next(place: Place) -> Call {
+    Call::ReadNext {
+        cursor: ReadCursor {
             place,
             offset: 65536,
-        };
-        let call = Call::ReadNext { cursor, len };
-        assert_eq!(rt; call_text(alloc, &call)?.as_str(), text);
+        },
+        len: read_len(),
     }
+}
+
+/// A call with one path.
+fn path_call(command: &str, path: PathText) -> Call {
+    match command {
+        "createover" => Call::Create { path, over: true },
+        "read" => Call::Read {
+            path,
+            offset: 5,
+            len: read_len(),
+        },
+        "stat" => Call::Stat { path },
+        _ => Call::List {
+            path,
+            size: PageSize::greatest(),
+        },
+    }
+}
+
+fn write_calls(alloc: Global, out: &mut String) -> Result<(), NoMemory> {
+    let kind = EntryKind::Accepted;
+    let path = "/r/\u{e9}/a b%";
+    write_made(out, kind, path_call("createover", path_of(alloc, path)?))?;
+    write_made(out, kind, rename(alloc, path_of(alloc, path)?, "/#")?)?;
+    write_made(out, kind, append(alloc, path_of(alloc, "/a b")?, b"")?)?;
+    write_made(
+        out,
+        kind,
+        append(alloc, path_of(alloc, "/a b")?, b"\x00 #%\x7F\xFFz/")?,
+    )
+}
+
+fn write_faults(alloc: Global, out: &mut String) -> Result<(), NoMemory> {
+    let kind = EntryKind::Faulted;
+    write_made(out, kind, path_call("list", path_of(alloc, "/")?))?;
+    write_made(out, kind, path_call("stat", path_of(alloc, "/")?))?;
+    write_made(out, kind, path_call("read", path_of(alloc, "/a b")?))?;
+    write_made(out, kind, read_next(Place::Live(InodeId(2))))?;
+    write_made(out, kind, read_next(Place::Frozen(InodeId(3), SnapId(4))))?;
+    write_made(out, kind, read_next(Place::SnapshotsOf(InodeId(5))))
+}
+
+#[test]
+fn calls_are_written(rt: HostRuntime) -> Result<(), Fail> {
+    let mut out = String::new(rt.alloc());
+    write_calls(rt.alloc(), &mut out)?;
+    write_faults(rt.alloc(), &mut out)?;
+    let text = "2 3.10 createover /r/%C3%A9/a%20b%25\n\
+        2 3.10 mv /r/%C3%A9/a%20b%25 /%23\n\
+        2 3.10 append /a%20b 0\n\
+        2 3.10 append /a%20b 8 %00%20%23%25%7F%FFz/\n\
+        2 3.10 fault list\n\
+        2 3.10 fault stat\n\
+        2 3.10 fault read /a%20b 5 7\n\
+        2 3.10 fault readnext live 2 65536 7\n\
+        2 3.10 fault readnext frozen 3 4 65536 7\n\
+        2 3.10 fault readnext snapshots 5 65536 7\n";
+    assert_eq!(rt; out.as_str(), text);
+    Ok(())
+}
+
+// ---- nodes
+
+fn write_line(out: &mut String, is_dir: bool, name: Option<Name>) -> Result<(), NoMemory> {
+    let line = TreeLine {
+        depth: 2,
+        id: InodeId(14),
+        is_dir,
+        mode: Mode::of_file(),
+        stamp: 6,
+        size: 70,
+        name,
+    };
+    write_node(out, &line)
+}
+
+#[test]
+fn names_of_nodes_are_escaped(rt: HostRuntime) -> Result<(), Fail> {
+    let alloc = rt.alloc();
+    let mut out = String::new(alloc);
+    write_line(&mut out, false, Some(name_of(alloc, "x\u{7F}")?))?;
+    write_line(&mut out, true, Some(name_of(alloc, "\u{e9}%")?))?;
+    assert_eq!(rt;
+        out.as_str(),
+        "2 file 14 0644 6 70 x%7F\n2 dir 14 0644 6 %C3%A9%25\n"
+    );
+    Ok(())
+}
+
+// ---- a page that is cut, for which no command asks
+
+fn make(alloc: Global, namenode: &mut Namenode<SteadyBlocks>, call: Call) -> Reply {
+    if is_exclusive(&call) {
+        namenode.do_call(CallerId(0), 1, call).reply
+    } else {
+        namenode_read::ask(alloc, namenode.state(), namenode.tick(), &call)
+    }
+}
+
+fn page_size(entries: u16) -> PageSize {
+    PageSize::new(entries).unwrap_or(PageSize::greatest())
+}
+
+fn list_root(alloc: Global, entries: u16) -> Result<Call, NoMemory> {
+    Ok(Call::List {
+        path: path_of(alloc, "/")?,
+        size: page_size(entries),
+    })
+}
+
+fn make_two(alloc: Global, namenode: &mut Namenode<SteadyBlocks>) -> Result<(), NoMemory> {
+    for text in ["/a", "/b"] {
+        let path = path_of(alloc, text)?;
+        make(alloc, namenode, Call::Mkdir { path });
+    }
+    Ok(())
+}
+
+fn write_pages(
+    alloc: Global,
+    namenode: &mut Namenode<SteadyBlocks>,
+    out: &mut String,
+) -> Result<(), NoMemory> {
+    for entries in 1..=2 {
+        let call = list_root(alloc, entries)?;
+        write_target_reply(out, make(alloc, namenode, call))?;
+    }
+    Ok(())
+}
+
+fn write_cut(alloc: Global, out: &mut String) -> Result<(), NoMemory> {
+    let mut namenode = Namenode::new(alloc, SteadyBlocks::new(alloc))?;
+    make_two(alloc, &mut namenode)?;
+    write_pages(alloc, &mut namenode, out)
+}
+
+#[test]
+fn a_page_may_be_cut(rt: HostRuntime) -> Result<(), Fail> {
+    let mut out = String::new(rt.alloc());
+    write_cut(rt.alloc(), &mut out)?;
+    let text = "4 t@9 page 1 more\n  dir 2 a\n\
+        4 t@9 page 2 end\n  dir 2 a\n  dir 3 b\n";
+    assert_eq!(rt; out.as_str(), text);
     Ok(())
 }

@@ -14,5 +14,5 @@ pub returns : goal.returns
 returns c = record {
   answered = λ plain stands told.
       c.reply_in.ensures told
-      ∙ sym (answer_stands c.args.state.now plain stands c.args.call.now (reads_none (is_modifying c.args.call.now) (uses_store c.args.call.now) c.requires.shared));
+      ∙ sym (answer_stands c.args.state.now plain stands c.args.call.now c.requires.served (reads_none (is_modifying c.args.call.now) (uses_store c.args.call.now) c.requires.shared));
 }

@@ -1,5 +1,6 @@
 use Rattle.std.proofs.Common.{arith, ◌+◌, ◌%◌, ◌<◌, length, IsSome}
-use Rattle.hs_types.specs.Blocks.{BlockMap, HoldsFile, block_size, find, bytes_of}
+use Rattle.hs_types.specs.Blocks.{BlockMap, HoldsFile, find, bytes_of}
+use Rattle.hs_types.specs.Limits.{block_size}
 use Rattle.block_store.specs.Changes.{Writes, Spoils, with_bytes_at}
 use Rattle.block_contents.specs.Contents.{Appended, KeepsFile, SameBlocks}
 use Rattle.block_contents.proofs.Told.{changes_map, changes_same, told_map, on_ok, on_both}

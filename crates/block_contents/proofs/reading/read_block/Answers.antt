@@ -1,5 +1,6 @@
 use Rattle.std.proofs.Common.{◌≡◌, arith, ◌+◌, ◌*◌, length, take, drop, sym, ap, subst, ◌∙◌}
-use Rattle.hs_types.specs.Blocks.{HoldsFile, block_size, find, bytes_of, joined}
+use Rattle.hs_types.specs.Blocks.{HoldsFile, find, bytes_of, joined}
+use Rattle.hs_types.specs.Limits.{block_size}
 use Rattle.block_store.specs.Changes.{Reaches}
 use Rattle.block_contents.proofs.Told.{told_map, told_with, on_ok}
 use Rattle.block_contents.proofs.Parts.{LiesIn, block_reaches, block_bytes}

@@ -1,6 +1,7 @@
 use Rattle.std.proofs.Common.{◌≡◌, arith, ℕ, ◌+◌, ◌-◌, ◌*◌, ◌/◌, ◌%◌, ◌<◌, ◌≤◌, List, ◌++◌, length, take, drop, IfSome, subst, refl, length-take, length-drop, length-append}
 use Rattle.std.proofs.lemmas.Grind.{common_steps}
-use Rattle.hs_types.specs.Blocks.{block_size, joined}
+use Rattle.hs_types.specs.Blocks.{joined}
+use Rattle.hs_types.specs.Limits.{block_size}
 use Rattle.block_contents.proofs.Told.{told_with, on_ok}
 use Rattle.block_contents.proofs.Parts.{parts_put, two_pieces}
 use Rattle.block_contents.proofs.reading.read_into.Goals as goal

@@ -1,6 +1,6 @@
-use Rattle.std.proofs.Common.{rules, is_some, not}
+use Rattle.std.proofs.Common.{rules, not}
 use Rattle.std.proofs.lemmas.Fn.{filter_same}
-use Rattle.hs_plain.specs.Change.{is_under}
+use Rattle.hs_plain.specs.Tree.{is_under}
 use Rattle.hs_plain.proofs.change.cut.Goals as goal
 
 pub returns : goal.returns

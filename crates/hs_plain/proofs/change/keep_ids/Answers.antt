@@ -1,6 +1,6 @@
-use Rattle.std.proofs.Common.{rules, is_some, not}
+use Rattle.std.proofs.Common.{rules, is_some}
 use Rattle.std.proofs.lemmas.Fn.{filter_same}
-use Rattle.hs_plain.specs.State.{place_of}
+use Rattle.hs_plain.specs.Tree.{place_of}
 use Rattle.hs_plain.proofs.change.keep_ids.Goals as goal
 
 pub returns : goal.returns

@@ -1,7 +1,7 @@
-use Rattle.std.proofs.Common.{◌≡◌, ◌+◌, Option, List, [], map, sym, ap, ◌∙◌}
+use Rattle.std.proofs.Common.{◌≡◌, ◌+◌, Option, List, [], map, ap, ◌∙◌}
 use Rattle.hs_types.specs.Names.{Names}
 use Rattle.hs_plain.specs.Tree.{Tree, parent_of}
-use Rattle.hs_plain.specs.Change.{stamped, new_path, put_all, moved, renamed}
+use Rattle.hs_plain.specs.Change.{stamped, new_path, put_all, moved}
 use Rattle.hs_plain.proofs.Moves.{at_new_paths, repathed}
 use Rattle.hs_plain.proofs.change.move_node.Goals as goal
 

@@ -1,4 +1,4 @@
-use Rattle.std.proofs.Common.{rules, ◌≡◌, sym, ap, ◌∙◌, insert, cond}
+use Rattle.std.proofs.Common.{◌≡◌, sym, ap, ◌∙◌, insert, cond}
 use Rattle.std.specs.Result.{is_ok}
 use Rattle.hs_plain.proofs.Growth.{put_new_at, put_over_at}
 use Rattle.hs_plain.proofs.change.put_place.Goals as goal

@@ -1,7 +1,5 @@
-use Rattle.std.proofs.Common.{◌≡◌, ◌<◌, List, length, set, ap, sym, ◌∙◌, arith}
+use Rattle.std.proofs.Common.{◌≡◌, ◌<◌, length, set, ap, sym, ◌∙◌, arith}
 use Rattle.std.proofs.lemmas.List.Edits.{map_over_more}
-use Rattle.hs_types.specs.Names.{Names}
-use Rattle.hs_plain.specs.declared.state.Node.{Node}
 use Rattle.hs_plain.specs.Change.{restamp}
 use Rattle.hs_plain.proofs.change.restamp_all.Goals as goal
 

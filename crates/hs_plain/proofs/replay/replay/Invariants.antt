@@ -11,5 +11,6 @@ invariant-loop-entry l = record {
   left : replay_from plain_files l.state (drop l.entry-index l.entry-items) ≡ plain_after l.entries;
   tick : l.state.tick ≡ l.entry-index;
   inodes : l.state.next_inode ≤ l.entry-index + 2;
+  snapshots : l.state.next_snapshot ≤ l.entry-index + 1;
   sorted : is_sorted path_cmp l.state.tree ≡ true;
 }

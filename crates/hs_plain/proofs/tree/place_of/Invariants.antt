@@ -1,5 +1,5 @@
 use Rattle.std.proofs.Common.{◌≡◌, drop}
-use Rattle.hs_plain.specs.State.{place_of}
+use Rattle.hs_plain.specs.Tree.{place_of}
 use Rattle.hs_plain.proofs.tree.place_of.Given as goal
 
 -- the node isn't among the places so far

@@ -1,11 +1,12 @@
 use Rattle.std.proofs.Common.{refl}
+use Rattle.hs_types.specs.Limits.{journal_limit}
 use Rattle.hs_plain.specs.Replay.{plain_after}
 use Rattle.hsnap.proofs.Asked.{asked_legal, asked_none}
 use Rattle.hsnap.proofs.runner.ask.Goals as goal
 
 pub returns-clause-legal : goal.returns-clause-legal
 returns-clause-legal g c = λ tells seq.
-    asked_legal tells c.args.namenode.now.entries c.args.call _ seq c.requires.shared c.tick-position.ensures refl
+    asked_legal tells journal_limit c.args.namenode.now.entries c.args.call _ seq c.requires.shared c.tick-position.ensures refl
     (c.ask.ensures.answered (plain_after c.args.namenode.now.entries) c.state.ensures.stands)
 
 pub returns-clause-none : goal.returns-clause-none

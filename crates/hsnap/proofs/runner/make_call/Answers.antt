@@ -1,4 +1,5 @@
 use Rattle.std.specs.Prelude.{is_some}
+use Rattle.hs_types.specs.Limits.{journal_limit}
 use Rattle.hsnap.proofs.Asked.{none_grows}
 use Rattle.hsnap.proofs.runner.make_call.Goals as goal
 
@@ -7,3 +8,6 @@ returns-else-is_exclusive-clause-legal g c = c.ask.ensures.legal (is_some (g.B.B
 
 pub returns-else-is_exclusive-clause-appended : goal.returns-else-is_exclusive-clause-appended
 returns-else-is_exclusive-clause-appended g c = none_grows c.args.namenode.now.entries c.args.seq c.args.call c.ask.result c.ask.ensures.none
+
+pub returns-then-is_exclusive-clause-legal : goal.returns-then-is_exclusive-clause-legal
+returns-then-is_exclusive-clause-legal g c = c.do_call.ensures.legal journal_limit

@@ -1,7 +1,12 @@
 use Rattle.std.specs.Prelude.{is_some}
-use Rattle.std.proofs.Common.{Bool, ◌∙◌}
+use Rattle.std.proofs.Common.{Bool, subst, ◌∙◌}
+use Rattle.hsnap.specs.Turn.{IsNext}
+use Rattle.hsnap.proofs.Served.{greatest_served}
 use Rattle.hsnap.proofs.Lines.{line_grows, line_falls, line_ends}
 use Rattle.hsnap.proofs.runner.run_line.Goals as goal
+
+pub make_next-answered-requires : goal.make_next-answered-requires
+make_next-answered-requires g c = greatest_served c.in-Some.call (subst IsNext c.in-Some.is c.loop-next.invariant.line.page)
 
 pub loop-next-smaller : goal.loop-next-smaller
 loop-next-smaller g c =

@@ -6,8 +6,8 @@ use Rattle.block_contents.specs.Contents.{AtMost}
 use Rattle.namenode_write.proofs.Appends.{append-listed, append-held, append-known, append-rank, append-no_dir, append-file, append-tree, append-bytes, left-kept, append-kept, append-made, same_tree}
 use Rattle.namenode_write.proofs.Causes.{fault-replied, cause-asked, cause-store, err_at, never_fault}
 use Rattle.namenode_write.proofs.Refused.{append_never}
-use Rattle.hs_types.specs.declared.call.Reply.TheVariants as replies
-use Rattle.hs_plain.specs.Answer.{is_ok_reply, told, replied}
+use Rattle.hs_types.specs.declared.reply.Reply.TheVariants as replies
+use Rattle.hs_plain.specs.Answer.{is_ok_reply, reply_to, replied}
 use Rattle.std.specs.Prelude.{not, slice_set, SomeIff, is_some}
 use Rattle.hs_types.specs.declared.ids.BlockId.{BlockId}
 use Rattle.hs_plain.specs.Tree.{Tree}
@@ -26,7 +26,7 @@ some_so (Some x) P v iff is = iff.0
 pub returns-in_err-path-clause-cause : goal.returns-in_err-path-clause-cause
 returns-in_err-path-clause-cause g c =
     err_at c.from_residual.result c.in_err-path.field-0.0 _ c.from_residual.ensures.1
-    (λ plain is. cause-asked _ c.args.namespace.now.state plain (calls.Append c.args.path.now c.args.bytes.now) c.in_err-path.field-0.0 is (fault-replied replies.Done _ c.in_err-path.field-0.0 c.in_err-path.ensures))
+    (λ plain is. cause-asked _ c.args.namespace.now.state plain (calls.Append c.args.path.now c.args.bytes.now) c.in_err-path.field-0.0 refl is (fault-replied replies.Done _ c.in_err-path.field-0.0 c.in_err-path.ensures))
 
 pub returns-in_err-path-clause-store_fault : goal.returns-in_err-path-clause-store_fault
 returns-in_err-path-clause-store_fault g c = never_fault c.from_residual.result _ c.in_err-path.field-0.0 (append_never c.args.namespace.now.state c.args.path.now) c.from_residual.ensures.1 c.in_err-path.ensures
@@ -74,7 +74,7 @@ returns-in-Ok-clause-kept g c =
 
 pub returns-clause-cause : goal.returns-clause-cause
 returns-clause-cause g c = λ plain is.
-    cause-store _ c.args.namespace.now.state plain (calls.Append c.args.path.now c.args.bytes.now) c.in-Err.error c.fault_of.result c.fault_of.ensures refl (ap (λ a. is_ok_reply (told (replied replies.Done a))) c.in_ok-path.ensures) is
+    cause-store _ c.args.namespace.now.state plain (calls.Append c.args.path.now c.args.bytes.now) c.in-Err.error c.fault_of.result refl c.fault_of.ensures refl (ap (λ a. is_ok_reply (reply_to (replied replies.Done a))) c.in_ok-path.ensures) is
 
 pub returns-clause-bytes : goal.returns-clause-bytes
 returns-clause-bytes g c = append-bytes _ _ c.args.namespace.now.state _ c.args.path.now c.in_ok-path.path c.in_ok-path.field-0-1.now c.in_ok-path.file.now c.requires.kept c.in_ok-path.ensures (g.B.BlockStore.blocks c.append_to-appended.new.store) (g.B.BlockStore.greatest c.append_to-appended.new.store) (subst (λ (f : FileBlocks). Changes (g.B.BlockStore.blocks c.args.namespace.now.store) (g.B.BlockStore.blocks c.append_to-appended.new.store) (KeepsFile f.size f.blocks)) (append-file _ _ c.args.namespace.now.state _ c.args.path.now c.in_ok-path.path c.in_ok-path.field-0-1.now c.in_ok-path.file.now c.requires.kept c.in_ok-path.ensures c.rank_of-rank.result c.as_slice.result.now c.items.result.now (c.as_slice.ensures.value ∙ c.take-places.ensures.items) c.items.ensures c.rank_of-rank.ensures.rank c.take-places.result.items c.index_mut.result.now c.take-places.ensures.items c.index_mut.ensures.value) c.in-Err.ensures.kept)

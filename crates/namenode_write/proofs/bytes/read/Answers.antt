@@ -1,3 +1,4 @@
+use Rattle.std.proofs.Common.{refl}
 use Rattle.namenode_write.proofs.Causes.{read-made, read-store, read-file, read-held, fault-then, cause-asked, err_at, never_fault}
 use Rattle.namenode_write.proofs.Refused.{found_file_never}
 use Rattle.hs_types.specs.declared.call.Call.TheVariants as calls
@@ -22,7 +23,7 @@ returns-in-Err-clause-cause g c = λ plain is.
 pub returns-in_err-place-clause-cause : goal.returns-in_err-place-clause-cause
 returns-in_err-place-clause-cause g c =
     err_at c.from_residual.result c.in_err-place.field-0.0 _ c.from_residual.ensures.1
-    (λ plain is. cause-asked _ c.args.namespace.now.state plain (calls.Read c.args.path.now c.args.offset c.args.len) c.in_err-place.field-0.0 is (fault-then _ _ c.in_err-place.field-0.0 c.in_err-place.ensures))
+    (λ plain is. cause-asked _ c.args.namespace.now.state plain (calls.Read c.args.path.now c.args.offset c.args.len) c.in_err-place.field-0.0 refl is (fault-then _ _ c.in_err-place.field-0.0 c.in_err-place.ensures))
 
 pub returns-in_err-place-clause-store_fault : goal.returns-in_err-place-clause-store_fault
 returns-in_err-place-clause-store_fault g c = never_fault c.from_residual.result _ c.in_err-place.field-0.0 (found_file_never c.args.namespace.now.state c.args.path.now) c.from_residual.ensures.1 c.in_err-place.ensures

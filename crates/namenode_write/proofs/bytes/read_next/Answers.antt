@@ -1,3 +1,4 @@
+use Rattle.std.proofs.Common.{refl}
 use Rattle.namenode_write.proofs.Causes.{next-made, next-store, next-file, next-held, fault-then, cause-asked, err_at}
 use Rattle.hs_plain.specs.declared.resolve.AskFault.TheVariants.{Refused}
 use Rattle.hs_types.specs.declared.call.Call.TheVariants as calls
@@ -22,4 +23,4 @@ returns-in-Err-clause-cause g c = λ plain is.
 pub returns-in_err-place-clause-cause : goal.returns-in_err-place-clause-cause
 returns-in_err-place-clause-cause g c =
     err_at c.from_residual.result (Refused c.in_err-place.field-0.0) _ c.from_residual.ensures.1
-    (λ plain is. cause-asked _ c.args.namespace.now.state plain (calls.ReadNext c.args.cursor c.args.len) (Refused c.in_err-place.field-0.0) is (fault-then _ _ (Refused c.in_err-place.field-0.0) c.in_err-place.ensures))
+    (λ plain is. cause-asked _ c.args.namespace.now.state plain (calls.ReadNext c.args.cursor c.args.len) (Refused c.in_err-place.field-0.0) refl is (fault-then _ _ (Refused c.in_err-place.field-0.0) c.in_err-place.ensures))

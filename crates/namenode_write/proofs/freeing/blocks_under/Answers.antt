@@ -1,6 +1,6 @@
 use Rattle.std.proofs.Common.{◌≡◌, true, false, List, ◌++◌, Vec, Global, ap, ◌∙◌}
 use Rattle.hs_types.specs.declared.ids.BlockId.{BlockId}
-use Rattle.hs_plain.specs.Change.{is_under}
+use Rattle.hs_plain.specs.Tree.{is_under}
 use Rattle.namenode_write.proofs.Trees.{under_yes, under_no}
 use Rattle.namenode_write.proofs.freeing.blocks_under.Goals as goal
 use Rattle.namenode_write.proofs.freeing.blocks_under.Goals.{then-starts_with+in_ok-extend_from_slice, else-starts_with}

@@ -1,13 +1,13 @@
 use Rattle.std.proofs.Common.{◌≡◌, ◌<◌, ◌^◌, ◌++◌, ◌∷◌, [], true, length, is_some, ap, sym, subst, ◌∙◌, List, Bool, arith}
 use Rattle.std.proofs.lemmas.Grind.{common_steps}
 use Rattle.std.proofs.lemmas.Result.{IfOk-weaker}
-use Rattle.hs_types.specs.declared.call.Reply.{Reply}
-use Rattle.hs_types.specs.declared.call.Entry.{Entry}
-use Rattle.hs_plain.specs.Answer.{answer, claimed}
+use Rattle.hs_types.specs.declared.reply.Reply.{Reply}
+use Rattle.hs_types.specs.declared.journal.Entry.{Entry}
+use Rattle.hs_plain.specs.Answer.{answer, claimed, is_plain_reply, is_store_fault, is_journal_full}
 use Rattle.hs_plain.specs.Replay.{plain_after}
-use Rattle.hs_plain.specs.Legal.{entry_of, leaves_entry, is_plain_reply, is_store_fault}
-use Rattle.block_store.specs.Faults.{Rose}
-use Rattle.namenode_write.proofs.Grown.{IsDone, done, rose, grown, legal_entered}
+use Rattle.hs_plain.specs.Legal.{IsLegalCall, entry_of, leaves_entry}
+use Rattle.hs_types.specs.Faults.{Rose}
+use Rattle.namenode_write.proofs.Grown.{IsDone, done, rose, grown, back, legal_entered, legal_back}
 use Rattle.namenode_write.proofs.namenode.do_in.Goals as goal
 use Rattle.namenode_write.proofs.namenode.do_in.Given.{Over}
 
@@ -24,11 +24,11 @@ grows : (g : Over) (c : goal.After-entered g) → c.entered.new.journal.items �
 grows g c = c.entered.ensures.appended ∙ ap (λ (entries : List Entry). entries ++ entry_of c.args.caller c.args.seq c.args.call c.reply_of-reply.result ∷ []) c.reserve.ensures.items
 
 pub returns-clause-legal : goal.returns-clause-legal
-returns-clause-legal g c =
+returns-clause-legal g c = λ limit.
     let call = c.args.call in
     let journal = c.args.journal.now.items in
     let replied = c.entered.ensures.reply in
-    legal_entered (is_some (g.B.BlockStore.blocks c.make_call.new.namespace.store)) journal c.entered.new.journal.items c.args.caller c.args.seq call c.entered.result
+    legal_entered (is_some (g.B.BlockStore.blocks c.make_call.new.namespace.store)) limit journal c.entered.new.journal.items c.args.caller c.args.seq call c.entered.result
     (grows g c ∙ ap (λ (reply : Reply). journal ++ entry_of c.args.caller c.args.seq call reply ∷ []) (sym replied))
     (c.entered.ensures.place ∙ ap (λ (entries : List Entry). length entries) c.reserve.ensures.items)
     c.entered.ensures.kept
@@ -50,3 +50,34 @@ returns-clause-consistent g c =
     c.args.namespace.now.state c.make_call.new.namespace.state c.args.namespace.now.waiting.items c.make_call.new.namespace.waiting.items
     journal longer c.args.caller c.args.seq c.args.call c.reply_of-reply.result
     c.requires.consistent (made g c) c.make_call.ensures.kept (left g c) (grows g c) c.make_call.ensures.tick c.make_call.ensures.inodes c.make_call.ensures.count cause fits
+
+-- what `make_call` ensures, of a reply that leaves no entry
+pub returns-then-not-leaves_entry-clause-legal : goal.returns-then-not-leaves_entry-clause-legal
+returns-then-not-leaves_entry-clause-legal g c = λ limit.
+    let call = c.args.call in
+    let journal = c.args.journal.now.items in
+    let told = c.handed_back-then-not-leaves_entry.result in
+    let replied = c.handed_back-then-not-leaves_entry.ensures.reply in
+    let made = done (g.B.BlockStore.blocks c.args.namespace.now.store) (g.B.BlockStore.blocks c.make_call.new.namespace.store) c.args.namespace.now.state c.make_call.new.namespace.state c.args.caller c.args.seq call c.make_call.result c.reply_of-reply.result (plain_after journal)
+    c.requires.consistent.plain c.reply_of-reply.ensures c.make_call.ensures.made c.make_call.ensures.cause c.make_call.ensures.unchanged c.make_call.ensures.bytes in
+    subst (λ (entries : List Entry). IsLegalCall (is_some (g.B.BlockStore.blocks c.make_call.new.namespace.store)) limit entries c.args.caller c.args.seq call told) (sym c.reserve.ensures.items)
+    (legal_back (is_some (g.B.BlockStore.blocks c.make_call.new.namespace.store)) limit journal c.args.caller c.args.seq call told
+    (c.handed_back-then-not-leaves_entry.ensures.place ∙ ap (λ (entries : List Entry). length entries) c.as_slice-then-not-leaves_entry.ensures.value ∙ ap (λ (entries : List Entry). length entries) c.reserve.ensures.items)
+    c.handed_back-then-not-leaves_entry.ensures.back
+    (ap (λ (reply : Reply). leaves_entry call reply) replied ∙ sym c.leaves_entry.ensures ∙ c.if-not-leaves_entry.true)
+    (ap (λ (reply : Reply). is_journal_full reply) replied ∙ made.never_full)
+    (λ plain. subst (λ (b : Bool). claimed b told.reply ≡ claimed b (answer (plain_after journal) call)) (sym c.make_call.ensures.tells)
+    (ap (λ (reply : Reply). claimed (is_some (g.B.BlockStore.blocks c.args.namespace.now.store)) reply) replied ∙ made.answered (ap (λ (reply : Reply). is_plain_reply reply) (sym replied) ∙ plain))))
+
+pub returns-then-not-leaves_entry-clause-consistent : goal.returns-then-not-leaves_entry-clause-consistent
+returns-then-not-leaves_entry-clause-consistent g c =
+    let journal = c.args.journal.now.items in
+    let was = c.requires.consistent in
+    let made = done (g.B.BlockStore.blocks c.args.namespace.now.store) (g.B.BlockStore.blocks c.make_call.new.namespace.store) c.args.namespace.now.state c.make_call.new.namespace.state c.args.caller c.args.seq c.args.call c.make_call.result c.reply_of-reply.result (plain_after journal)
+    was.plain c.reply_of-reply.ensures c.make_call.ensures.made c.make_call.ensures.cause c.make_call.ensures.unchanged c.make_call.ensures.bytes in
+    back (g.B.BlockStore.blocks c.args.namespace.now.store) (g.B.BlockStore.blocks c.make_call.new.namespace.store)
+    (g.B.BlockStore.greatest c.args.namespace.now.store) (g.B.BlockStore.greatest c.make_call.new.namespace.store)
+    (g.B.BlockStore.faults c.args.namespace.now.store) (g.B.BlockStore.faults c.make_call.new.namespace.store)
+    c.args.namespace.now.state c.make_call.new.namespace.state c.args.namespace.now.waiting.items c.make_call.new.namespace.waiting.items
+    journal c.reserve.new.self.items c.args.caller c.args.seq c.args.call c.reply_of-reply.result
+    was made c.make_call.ensures.kept (sym c.leaves_entry.ensures ∙ c.if-not-leaves_entry.true) c.reserve.ensures.items c.make_call.ensures.tick c.make_call.ensures.count

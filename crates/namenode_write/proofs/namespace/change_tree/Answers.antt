@@ -4,7 +4,7 @@ use Rattle.namenode_write.proofs.namespace.change_tree.Goals as goal
 
 pub returns-in-Create : goal.returns-in-Create
 returns-in-Create g c =
-    let all = lifted _ _ _ _ _ _ _ _ c.create.result c.requires.exclusive c.requires.storeless c.in-Create.is c.create.ensures.reply c.create.ensures.fault c.create.ensures.changed c.create.ensures.unchanged c.create.ensures.bytes in
+    let all = lifted _ _ _ _ _ _ _ _ c.create.result refl c.requires.exclusive c.requires.storeless c.in-Create.is c.create.ensures.reply c.create.ensures.fault c.create.ensures.changed c.create.ensures.unchanged c.create.ensures.bytes in
     record {
       made = all.made;
       cause = all.cause;
@@ -20,7 +20,7 @@ returns-in-Create g c =
 
 pub returns-in-Delete : goal.returns-in-Delete
 returns-in-Delete g c =
-    let all = lifted _ _ _ _ _ _ _ _ c.delete.result c.requires.exclusive c.requires.storeless c.in-Delete.is c.delete.ensures.reply c.delete.ensures.fault c.delete.ensures.changed c.delete.ensures.unchanged c.delete.ensures.bytes in
+    let all = lifted _ _ _ _ _ _ _ _ c.delete.result refl c.requires.exclusive c.requires.storeless c.in-Delete.is c.delete.ensures.reply c.delete.ensures.fault c.delete.ensures.changed c.delete.ensures.unchanged c.delete.ensures.bytes in
     record {
       made = all.made;
       cause = all.cause;
@@ -36,7 +36,7 @@ returns-in-Delete g c =
 
 pub returns-in_default : goal.returns-in_default
 returns-in_default g c =
-    let all = lifted _ _ _ _ c.args.call.now c.args.call.now _ _ c.arrange.result c.requires.exclusive c.requires.storeless refl c.arrange.ensures.reply c.arrange.ensures.fault c.arrange.ensures.changed c.arrange.ensures.unchanged c.arrange.ensures.bytes in
+    let all = lifted _ _ _ _ c.args.call.now c.args.call.now _ _ c.arrange.result c.requires.served c.requires.exclusive c.requires.storeless refl c.arrange.ensures.reply c.arrange.ensures.fault c.arrange.ensures.changed c.arrange.ensures.unchanged c.arrange.ensures.bytes in
     record {
       made = all.made;
       cause = all.cause;

@@ -1,5 +1,5 @@
 use Rattle.std.proofs.Common.{rules, ◌≡◌, List, [], ◌∷◌, ◌++◌, ◌∙◌, subst}
-use Rattle.hs_types.specs.declared.call.Entry.{Entry}
+use Rattle.hs_types.specs.declared.journal.Entry.{Entry}
 use Rattle.turn_lock.specs.Histories.{LeadsOn}
 use Rattle.turn_lock.specs.Seats.{Seat}
 use Rattle.turn_lock.proofs.Finishing.{met_more, all_met, all_popped}

@@ -1,5 +1,5 @@
 use Rattle.std.proofs.Common.{◌≡◌, ◌+◌, List, ap, subst, arith}
-use Rattle.hs_types.specs.declared.call.Entry.{Entry}
+use Rattle.hs_types.specs.declared.journal.Entry.{Entry}
 use Rattle.turn_lock.specs.Histories.{LeadsOn}
 use Rattle.turn_lock.proofs.Finishing.{shows}
 use Rattle.turn_lock.proofs.lock.meet_one.Goals as goal

@@ -1,7 +1,7 @@
 use Rattle.std.proofs.Common.{rules, ◌≡◌, ℕ, ◌+◌, ◌<◌, List, [], ◌∷◌, ◌++◌, sym, ap, ◌∙◌, subst, arith}
 use Rattle.std.specs.Prelude.{All}
 use Rattle.std.specs.Arc.{arc_value}
-use Rattle.hs_types.specs.declared.call.Entry.{Entry}
+use Rattle.hs_types.specs.declared.journal.Entry.{Entry}
 use Rattle.turn_lock.specs.Histories.{LeadsOn, caller_of}
 use Rattle.turn_lock.specs.Seats.{Seat, Lock}
 use Rattle.turn_lock.proofs.Finishing.{all_push, all_last, each_seen, own_leads}

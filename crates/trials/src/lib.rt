@@ -1,0 +1,10 @@
+//! Tests of the libraries, in a crate of their own: a crate that has tests is proved a second time with them. Each public
+//! call that may want memory is made once with ample memory, and what no contract says is shown by its text.
+#![tactic(auto)]
+
+#[cfg(test)]
+mod ends;
+#[cfg(test)]
+mod namenodes;
+#[cfg(test)]
+mod words;
