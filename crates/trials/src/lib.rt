@@ -7,4 +7,6 @@ mod ends;
 #[cfg(test)]
 mod namenodes;
 #[cfg(test)]
+mod plain;
+#[cfg(test)]
 mod words;

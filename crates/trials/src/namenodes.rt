@@ -296,7 +296,7 @@ fn a_fault_of_the_store_is_answered_and_entered(rt: HostRuntime) -> Result<(), F
 // ---- a tree that is deeper than any path of a call
 
 /// How many pieces the tree is made of, and how deep each is.
-const PIECES: u32 = 30;
+const PIECES: u32 = 22;
 
 const PIECE: u32 = 50;
 
@@ -345,9 +345,9 @@ fn run_deep(alloc: Global, out: &mut String) -> Result<(), NoMemory> {
 }
 
 #[test]
-fn a_tree_of_depth_1500_is_made_printed_and_deleted(rt: HostRuntime) -> Result<(), Fail> {
+fn a_tree_of_depth_1100_is_made_printed_and_deleted(rt: HostRuntime) -> Result<(), Fail> {
     let mut out = String::new(rt.alloc());
     run_deep(rt.alloc(), &mut out)?;
-    assert!(rt; out.as_str().ends_with("done 0; 1501 1500; done 0; 1 0; "));
+    assert!(rt; out.as_str().ends_with("done 0; 1101 1100; done 0; 1 0; "));
     Ok(())
 }
