@@ -1,7 +1,6 @@
 //! Lines that no script leads to yet: each is written by a helper that makes one value and lends it.
 use super::*;
 use block_store::SteadyBlocks;
-use hs_plain::answer::is_exclusive;
 use hs_types::{
     CallerId, Chunk, InodeId, ListCursor, NameText, PageSize, PathText, Refusal, SnapId,
 };
@@ -216,41 +215,35 @@ fn names_of_nodes_are_escaped(rt: HostRuntime) -> Result<(), Fail> {
 
 // ---- a page that is cut, for which no command asks
 
-fn make(alloc: Global, namenode: &mut Namenode<SteadyBlocks>, call: Call) -> Reply {
-    if is_exclusive(&call) {
-        namenode.do_call(CallerId(0), 1, call).reply
-    } else {
-        namenode_read::ask(alloc, namenode.state(), namenode.tick(), &call)
-    }
-}
-
 fn page_size(entries: u16) -> PageSize {
     PageSize::new(entries).unwrap_or(PageSize::greatest())
 }
 
-fn list_root(alloc: Global, entries: u16) -> Result<Call, NoMemory> {
-    Ok(Call::List {
-        path: path_of(alloc, "/")?,
-        size: page_size(entries),
-    })
+fn make_directory(namenode: &mut Namenode<SteadyBlocks>, path: PathText) -> Reply {
+    namenode.do_call(CallerId(0), 1, Call::Mkdir { path }).reply
+}
+
+fn list(alloc: Global, namenode: &Namenode<SteadyBlocks>, path: PathText, entries: u16) -> Reply {
+    let size = page_size(entries);
+    let call = Call::List { path, size };
+    namenode_read::ask(alloc, namenode.state(), namenode.tick(), &call)
 }
 
 fn make_two(alloc: Global, namenode: &mut Namenode<SteadyBlocks>) -> Result<(), NoMemory> {
     for text in ["/a", "/b"] {
-        let path = path_of(alloc, text)?;
-        make(alloc, namenode, Call::Mkdir { path });
+        make_directory(namenode, path_of(alloc, text)?);
     }
     Ok(())
 }
 
 fn write_pages(
     alloc: Global,
-    namenode: &mut Namenode<SteadyBlocks>,
+    namenode: &Namenode<SteadyBlocks>,
     out: &mut String,
 ) -> Result<(), NoMemory> {
     for entries in 1..=2 {
-        let call = list_root(alloc, entries)?;
-        write_target_reply(out, make(alloc, namenode, call))?;
+        let root = path_of(alloc, "/")?;
+        write_target_reply(out, list(alloc, namenode, root, entries))?;
     }
     Ok(())
 }
@@ -258,7 +251,7 @@ fn write_pages(
 fn write_cut(alloc: Global, out: &mut String) -> Result<(), NoMemory> {
     let mut namenode = Namenode::new(alloc, SteadyBlocks::new(alloc))?;
     make_two(alloc, &mut namenode)?;
-    write_pages(alloc, &mut namenode, out)
+    write_pages(alloc, &namenode, out)
 }
 
 #[test]
