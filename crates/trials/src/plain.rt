@@ -2,8 +2,9 @@
 use hs_plain::answer::{answer_of, is_modifying};
 use hs_plain::replay::replay;
 use hs_types::{
-    Call, CallerId, Chunk, DirItem, Entry, EntryKind, Item, Line, LineKind, List, Mode, Name,
-    NameText, NoMemory, PageSize, PathText, Point, ReadLen, Refusal, Reply, SnapItem,
+    Call, CallerId, Chunk, DirItem, Entry, EntryKind, Item, Line, LineKind, List, ListCursor, Mode,
+    Name, NameText, NoMemory, PageSize, PathText, Point, ReadCursor, ReadLen, Refusal, Reply,
+    ReportCursor, SnapItem,
 };
 use std::alloc::Global;
 use std::test::Fail;
@@ -230,30 +231,42 @@ fn write_reply(out: &mut String, reply: &Reply) -> Result<(), NoMemory> {
     }
 }
 
-/// The call for the page behind a reply, if it has a cursor.
-fn behind(reply: Reply) -> Option<Call> {
-    match reply {
-        Reply::Bytes {
-            next: Some(cursor),
-            ..
-        } => Some(Call::ReadNext {
+fn bytes_behind(next: Option<ReadCursor>) -> Option<Call> {
+    match next {
+        Some(cursor) => Some(Call::ReadNext {
             cursor,
             len: two_bytes(),
         }),
-        Reply::Page {
-            next: Some(cursor),
-            ..
-        } => Some(Call::ListNext {
+        None => None,
+    }
+}
+
+fn items_behind(next: Option<ListCursor>) -> Option<Call> {
+    match next {
+        Some(cursor) => Some(Call::ListNext {
             cursor,
             size: page_of_two(),
         }),
-        Reply::Report {
-            next: Some(cursor),
-            ..
-        } => Some(Call::ReportNext {
+        None => None,
+    }
+}
+
+fn lines_behind(next: Option<ReportCursor>) -> Option<Call> {
+    match next {
+        Some(cursor) => Some(Call::ReportNext {
             cursor,
             size: page_of_two(),
         }),
+        None => None,
+    }
+}
+
+/// The call for the page behind a reply, if it has a cursor.
+fn behind(reply: Reply) -> Option<Call> {
+    match reply {
+        Reply::Bytes { next, .. } => bytes_behind(next),
+        Reply::Page { next, .. } => items_behind(next),
+        Reply::Report { next, .. } => lines_behind(next),
         _ => None,
     }
 }
@@ -286,20 +299,41 @@ fn answer_behind(alloc: Global, entries: &List<Entry>, call: &Call) -> Result<Re
     Ok(answer_of(alloc, &state, call))
 }
 
-/// Enters a call that was accepted, and keeps the call for the next page.
+/// Whether a call leaves an entry, being answered so.
+fn leaves_entry(call: &Call, reply: &Reply) -> bool {
+    is_modifying(call) && is_accepted(reply)
+}
+
+fn keep_next(past: &mut Past, reply: Reply) {
+    past.next = behind(reply);
+}
+
+/// Enters a call that was accepted, or else keeps the call for the page behind its reply.
 fn enter(past: &mut Past, call: Call, reply: Reply) -> Result<(), NoMemory> {
-    if is_modifying(&call) && is_accepted(&reply) {
+    if leaves_entry(&call, &reply) {
         return past.entries.push(entry_of(call));
     }
-    past.next = behind(reply);
+    keep_next(past, reply);
     Ok(())
 }
 
+fn write_told(out: &mut String, reply: &Reply) -> Result<(), NoMemory> {
+    write_reply(out, reply)?;
+    Ok(out.push_str("; ")?)
+}
+
+/// Writes what a call was told, and enters it.
+fn tell(past: &mut Past, call: Call, reply: Reply, out: &mut String) -> Result<(), NoMemory> {
+    let written = write_told(out, &reply);
+    enter(past, call, reply)?;
+    written
+}
+
 fn make(alloc: Global, past: &mut Past, call: Call, out: &mut String) -> Result<(), NoMemory> {
-    let reply = answer_behind(alloc, &past.entries, &call)?;
-    write_reply(out, &reply)?;
-    out.push_str("; ")?;
-    enter(past, call, reply)
+    match answer_behind(alloc, &past.entries, &call) {
+        Ok(reply) => tell(past, call, reply, out),
+        Err(NoMemory) => Err(NoMemory),
+    }
 }
 
 /// Runs a command; `more` asks for the page behind the last reply.
