@@ -1,19 +1,19 @@
 -- What each change of one directory's snapshots keeps, at the place that was found for the directory.
-use Rattle.std.proofs.Common.{◌≡◌, ℕ, ◌+◌, ◌<◌, true, false, ◌⊎◌, inl, inr, nat_eq, nat_lt, if◌then◌else◌, List, [], ◌∷◌, ◌++◌, length, filter, take, drop, get_or, set, Option, Some, None, Result, Ok, Err, OnOk, OnErr, refl, sym, ap, subst, ◌∙◌, arith, eqb-true}
+use Rattle.std.proofs.Common.{◌≡◌, ℕ, ◌+◌, ◌<◌, true, false, ◌⊎◌, inl, inr, nat_eq, if◌then◌else◌, List, [], ◌∷◌, ◌++◌, length, get_or, set, Option, Some, None, Result, Ok, Err, OnOk, OnErr, refl, sym, ap, subst, ◌∙◌, arith, eqb-true}
 use Rattle.std.specs.Result.{is_err}
-use Rattle.std.specs.List.{find, list_any, insert, remove}
+use Rattle.std.specs.List.{find, list_any}
 use Rattle.std.specs.Cmp.{nat_eq_equiv}
 use Rattle.std.proofs.lemmas.Bool.{cases_Bool}
-use Rattle.std.proofs.lemmas.List.{set-get_or, take-append-drop}
+use Rattle.std.proofs.lemmas.List.{set-get_or}
 use Rattle.hs_types.specs.declared.ids.InodeId.{InodeId}
 use Rattle.hs_types.specs.declared.ids.SnapId.{SnapId}
 use Rattle.hs_types.specs.declared.name.SnapItem.{SnapItem}
-use Rattle.snapshot_manager.specs.Snapshots.{Directory, Snapshots, NamesDiffer, IsProper, has_name, has_id, is_of, snaps_in, allowed, disallowed, changed, without, renamed}
-use Rattle.snapshot_manager.specs.Places.{NonePasses, PassesOnlyAt, IsGapFor}
+use Rattle.snapshot_manager.specs.Snapshots.{Directory, Snapshots, NamesDiffer, IsProper, has_name, has_id, is_of, snaps_in, disallowed, changed, without, renamed}
+use Rattle.snapshot_manager.specs.Places.{PassesOnlyAt}
 use Rattle.snapshot_manager.specs.Owners.{owner_of, is_owner, SetsOwner, IsIndexed}
-use Rattle.snapshot_manager.proofs.Lists.{nowhere_from_find, filter_nowhere, filter_there, there_in_range}
-use Rattle.snapshot_manager.proofs.Directories.{no_dir, entry_is, key_there, items_at, items_at-filter, items_at-insert, none_drop, snaps_of-nowhere, snaps_of-there, changed-there}
-use Rattle.snapshot_manager.proofs.Histories.{history_at, history_push, history_without, history_renamed, proper_set, proper_disallowed, proper_insert}
+use Rattle.snapshot_manager.proofs.Lists.{nowhere_from_find, filter_nowhere, there_in_range}
+use Rattle.snapshot_manager.proofs.Directories.{no_dir, entry_is, key_there, items_at, items_at-filter, changed-there}
+use Rattle.snapshot_manager.proofs.Histories.{history_at, history_push, history_without, history_renamed, proper_set, proper_disallowed}
 use Rattle.snapshot_manager.proofs.Indexed.{index_same, index_push, index_without, same_ids, any_id-renamed, unused_at}
 
 pub on_err : {T E P : Type 0} (r : Result T E) → true ≡ is_err r → OnErr r P → P
@@ -131,21 +131,3 @@ kept_disallowed owners s dir kept none = (
     same : (q : InodeId) → (nat_eq dir.0 q.0 ≡ true) ⊎ (nat_eq dir.0 q.0 ≡ false) → (if nat_eq dir.0 q.0 then [] else items_at q.0 s.dirs) ≡ items_at q.0 s.dirs
     same q (inl this) = rw this (sym (ap (λ n. items_at n s.dirs) (sym (eqb-true dir.0 q.0 this)) ∙ none))
     same q (inr other) = rw other refl
-
-pub disallowed-there : (s : Snapshots) (dir : InodeId) (i : ℕ) → PassesOnlyAt (is_of dir) s.dirs i → disallowed dir s ≡ record s { dirs = remove s.dirs i }
-disallowed-there s dir i there = ap (λ l. record s { dirs = l }) (filter_there (is_of dir) s.dirs i there)
-
-pub disallowed-nowhere : (s : Snapshots) (dir : InodeId) → NonePasses (is_of dir) s.dirs → disallowed dir s ≡ s
-disallowed-nowhere s dir absent = ap (λ l. record s { dirs = l }) (filter_nowhere (is_of dir) s.dirs absent)
-
-pub allowed-gap : (s : Snapshots) (dir : InodeId) (i : ℕ) → IsGapFor dir s.dirs i → allowed dir s ≡ record s { dirs = insert s.dirs i (dir, []) }
-allowed-gap s dir i gap = rw (snaps_of-nowhere dir s gap.absent, gap.before, gap.after) refl
-
-pub allowed-there : (s : Snapshots) (dir : InodeId) (i : ℕ) → PassesOnlyAt (is_of dir) s.dirs i → allowed dir s ≡ s
-allowed-there s dir i there = rw (snaps_of-there dir s i there) refl
-
-pub kept_allowed : (owners : List (SnapId × InodeId)) (s : Snapshots) (dir : InodeId) (i : ℕ) → Kept owners s → NamesDiffer [] → IsGapFor dir s.dirs i → Kept owners (record s { dirs = insert s.dirs i (dir, []) })
-kept_allowed owners s dir i kept apart gap = (
-  subst (λ l. IsProper (record s { dirs = l })) (ap (λ l. l ++ (dir, []) ∷ filter (λ (d : Directory). nat_lt dir.0 d.0.0) s.dirs) gap.before ∙ ap (λ l. take i s.dirs ++ (dir, []) ∷ l) gap.after) (proper_insert s dir kept.0 apart),
-  index_same owners s (record s { dirs = insert s.dirs i (dir, []) }) (λ id q. ap (list_any (has_id id)) (items_at-insert dir (take i s.dirs) (drop i s.dirs) (none_drop (is_of dir) s.dirs i gap.absent) q.0 ∙ ap (items_at q.0) (take-append-drop i s.dirs))) kept.1,
-)

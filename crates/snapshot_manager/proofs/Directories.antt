@@ -1,17 +1,16 @@
 -- The directories: what is found at a directory's place, and what a change there makes of the whole.
-use Rattle.std.proofs.Common.{◌≡◌, ℕ, zero, suc, ◌<◌, Bool, true, false, not, nat_eq, nat_lt, ◌⊎◌, inl, inr, if◌then◌else◌, List, [], ◌∷◌, ◌++◌, length, map, filter, get_or, set, drop, Some, None, IsSome, is_some, unwrap_or, slice_get, Result, Ok, Err, IfOk, IfErr, IsOk, refl, sym, ap, subst, ◌∙◌, arith, ltb-true, eqb-true}
+use Rattle.std.proofs.Common.{◌≡◌, ℕ, zero, suc, ◌<◌, true, false, not, nat_eq, nat_lt, ◌⊎◌, inl, inr, if◌then◌else◌, List, [], ◌∷◌, ◌++◌, length, map, filter, get_or, set, Some, None, unwrap_or, slice_get, refl, sym, ap, ◌∙◌, arith, ltb-true, eqb-true}
 use Rattle.std.specs.Option.{option_map}
 use Rattle.std.specs.List.{find, AllByRecursion}
 use Rattle.std.specs.Cmp.{nat_eq_equiv}
 use Rattle.std.proofs.lemmas.Bool.{cases_Bool}
-use Rattle.std.proofs.lemmas.Result.{IfOk-at_ok}
 use Rattle.std.proofs.lemmas.List.{map-append, get_or_default}
 use Rattle.hs_types.specs.declared.ids.InodeId.{InodeId}
 use Rattle.hs_types.specs.declared.name.SnapItem.{SnapItem}
 use Rattle.snapshot_manager.specs.Snapshots.{Directory, Snapshots, IsRising, is_of, snaps_of, snaps_in, changed}
-use Rattle.snapshot_manager.specs.Places.{NonePasses, PassesOnlyAt, IsGapFor}
+use Rattle.snapshot_manager.specs.Places.{NonePasses, PassesOnlyAt}
 use Rattle.snapshot_manager.proofs.Lists.{all_weaker, find_there, find_nowhere, map_there, map_nowhere, there_in_range, slice_get_in, passes_only_at}
-use Rattle.snapshot_manager.proofs.Rising.{Parts, parts_absent, parts_before, parts_after, rising_apart}
+use Rattle.snapshot_manager.proofs.Rising.{rising_apart, rising_filter}
 
 -- an entry that stands for none
 abbrev pub no_dir : Directory
@@ -19,21 +18,6 @@ no_dir = (record { 0 = 0 }, [])
 
 abbrev pub key : Directory → ℕ
 key d = d.0.0
-
--- what a search says of a directory that isn't there
-pub gap_from_parts : (dir : InodeId) (dirs : List Directory) (r : Result ℕ ℕ) → IfErr r (Parts key no_dir dir.0 dirs) → IfErr r (IsGapFor dir dirs)
-gap_from_parts dir dirs (Ok i) parts = tt
-gap_from_parts dir dirs (Err i) parts = record {
-  in_range = parts.in_range;
-  absent = parts_absent key no_dir dir.0 dirs i parts;
-  before = parts_before key no_dir dir.0 dirs i parts;
-  after = parts_after key no_dir dir.0 dirs i parts;
-}
-
--- a search finds a directory that is snapshottable
-pub found_where_some : (dir : InodeId) (s : Snapshots) (r : Result ℕ ℕ) → IfErr r (IsGapFor dir s.dirs) → IsSome (snaps_of s dir) → IsOk r
-found_where_some dir s (Ok i) gap some = refl
-found_where_some dir s (Err i) gap some = let none : is_some (snaps_of s dir) ≡ false = ap (λ o. is_some (option_map (λ (d : Directory). d.1) o)) (find_nowhere (is_of dir) s.dirs gap.absent) in absurd (cc)
 
 module _ (dir : InodeId) (s : Snapshots) (i : ℕ) (there : PassesOnlyAt (is_of dir) s.dirs i) where
   found_is : find (is_of dir) s.dirs ≡ Some (get_or s.dirs i no_dir)
@@ -67,10 +51,6 @@ pub key_there : (dir : InodeId) (dirs : List Directory) (i : ℕ) → PassesOnly
 key_there dir [] i there = absurd there
 key_there dir (d ∷ ds) zero there = sym (eqb-true dir.0 d.0.0 there.0)
 key_there dir (d ∷ ds) (suc i) there = key_there dir ds i there.1
-
--- what a search found, in the directories that it was given
-pub place_there : (dir : InodeId) (given dirs : List Directory) (r : Result ℕ ℕ) (i : ℕ) → given ≡ dirs → IfOk r (PassesOnlyAt (is_of dir) given) → r ≡ Ok i → PassesOnlyAt (is_of dir) dirs i
-place_there dir given dirs r i same found is = subst (λ l. PassesOnlyAt (is_of dir) l i) same (IfOk-at_ok (PassesOnlyAt (is_of dir) given) is found)
 
 -- what is read at a directory's place are its snapshots
 pub snaps_in-read : (dir : InodeId) (s t : Snapshots) (i : ℕ) (d : Directory) → s ≡ t → PassesOnlyAt (is_of dir) s.dirs i → d ≡ get_or s.dirs i d → snaps_in t dir ≡ d.1
@@ -131,33 +111,12 @@ items_at-insert dir (x ∷ xs) ys none q = elim (cases_Bool (nat_eq q x.0.0)) [
   | inr there ↦ rw there (items_at-insert dir xs ys none q)
 ]
 
-pub none_drop : {X : Type 0} (test : X → Bool) (xs : List X) (i : ℕ) → NonePasses test xs → NonePasses test (drop i xs)
-none_drop test [] zero none = tt
-none_drop test [] (suc i) none = tt
-none_drop test (x ∷ xs) zero none = none
-none_drop test (x ∷ xs) (suc i) none = none_drop test xs i none.1
-
 -- ---- the order of the directories after a change
 
 pub keys-set : (n : ℕ) (x : Directory) (dirs : List Directory) (i : ℕ) → PassesOnlyAt (λ d. nat_eq n d.0.0) dirs i → x.0.0 ≡ n → map key (set dirs i x) ≡ map key dirs
 keys-set n x [] i there same = absurd there
 keys-set n x (d ∷ ds) zero there same = ap (λ k. k ∷ map key ds) (same ∙ eqb-true n d.0.0 there.0)
 keys-set n x (d ∷ ds) (suc i) there same = ap (λ l. d.0.0 ∷ l) (keys-set n x ds i there.1 same)
-
-module _ {X : Type 0} (number : X → ℕ) (keeps : X → Bool) where
-  pub all_numbers_filter : (P : ℕ → Type 0) (xs : List X) → AllByRecursion P (map number xs) → AllByRecursion P (map number (filter keeps xs))
-  all_numbers_filter P [] all = tt
-  all_numbers_filter P (x ∷ xs) all = elim (cases_Bool (keeps x)) [
-    | inl kept ↦ rw kept (all.0, all_numbers_filter P xs all.1)
-    | inr gone ↦ rw gone (all_numbers_filter P xs all.1)
-  ]
-
-  pub rising_filter : (xs : List X) → IsRising (map number xs) → IsRising (map number (filter keeps xs))
-  rising_filter [] up = tt
-  rising_filter (x ∷ xs) up = elim (cases_Bool (keeps x)) [
-    | inl kept ↦ rw kept (all_numbers_filter (λ m. number x < m) xs up.0, rising_filter xs up.1)
-    | inr gone ↦ rw gone (rising_filter xs up.1)
-  ]
 
 all_join : (P : ℕ → Type 0) (xs ys : List ℕ) → AllByRecursion P xs → AllByRecursion P ys → AllByRecursion P (xs ++ ys)
 all_join P [] ys front back = back

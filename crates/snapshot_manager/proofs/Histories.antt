@@ -1,5 +1,5 @@
 -- What holds of each directory's snapshots, and how each change keeps it.
-use Rattle.std.proofs.Common.{◌≡◌, ℕ, ◌+◌, ◌-◌, ◌<◌, ◌≤◌, Bool, not, nat_lt, inl, inr, if◌then◌else◌, List, [], ◌∷◌, ◌++◌, length, map, filter, get_or, set, Some, slice_get, refl, ap, subst, arith}
+use Rattle.std.proofs.Common.{◌≡◌, ℕ, ◌+◌, ◌-◌, ◌<◌, ◌≤◌, Bool, not, nat_lt, inl, inr, if◌then◌else◌, List, [], ◌∷◌, ◌++◌, length, map, filter, get_or, set, Some, slice_get, ap, subst, arith}
 use Rattle.std.specs.Option.{option_map}
 use Rattle.std.specs.List.{find, AllByRecursion, IsDistinct}
 use Rattle.std.proofs.lemmas.Bool.{cases_Bool}
@@ -7,17 +7,12 @@ use Rattle.std.proofs.lemmas.List.{map-append, length-map, length_push}
 use Rattle.hs_types.specs.declared.ids.InodeId.{InodeId}
 use Rattle.hs_types.specs.declared.ids.SnapId.{SnapId}
 use Rattle.hs_types.specs.declared.name.SnapItem.{SnapItem}
-use Rattle.snapshot_manager.specs.Snapshots.{Directory, Snapshots, IsRising, IdsRise, NamesDiffer, IsHistory, IsProper, has_name, is_of, snaps_of, without, renamed, disallowed, greatest, last_id}
+use Rattle.snapshot_manager.specs.Snapshots.{Directory, Snapshots, IdsRise, NamesDiffer, IsHistory, IsProper, has_name, is_of, snaps_of, without, renamed, disallowed, greatest, last_id}
 use Rattle.snapshot_manager.specs.Places.{PassesOnlyAt}
 use Rattle.snapshot_manager.proofs.Lists.{all_push, all_set, all_at, all_weaker, all_filter, slice_get_in, there_in_range}
-use Rattle.snapshot_manager.proofs.Directories.{no_dir, key, key_there, keys-set, rising_filter, rising_insert}
-
-abbrev pub number : SnapItem → ℕ
-number item = item.id.0
-
-rising_push : (ns : List ℕ) (n : ℕ) → IsRising ns → AllByRecursion (λ m. m < n) ns → IsRising (ns ++ n ∷ [])
-rising_push [] n up below = (tt, tt)
-rising_push (m ∷ ns) n up below = (all_push (λ k. m < k) ns n up.0 below.0, rising_push ns n up.1 below.1)
+use Rattle.snapshot_manager.proofs.Directories.{no_dir, key, key_there, keys-set, rising_insert}
+use Rattle.snapshot_manager.proofs.Rising.{rising_filter}
+use Rattle.snapshot_manager.proofs.Naming.{number, rising_push, numbers-renamed}
 
 numbers_below : (n m : ℕ) → m < n → (items : List SnapItem) → AllByRecursion (λ item. (0 < item.id.0) × (item.id.0 ≤ m)) items → AllByRecursion (λ k. k < n) (map number items)
 numbers_below n m lt [] all = tt
@@ -64,14 +59,6 @@ history_without n name items h apart = record {
   in_range = all_filter (λ item. (0 < item.id.0) × (item.id.0 ≤ n)) (λ item. not (has_name name item)) items h.in_range;
   few = omega (arith, h.few, length-filter-le (λ item. not (has_name name item)) items);
 }
-
--- another name leaves the ids
-pub numbers-renamed : (old new : List ℕ) (items : List SnapItem) → map number (renamed old new items) ≡ map number items
-numbers-renamed old new [] = refl
-numbers-renamed old new (item ∷ items) = elim (cases_Bool (has_name old item)) [
-  | inl here ↦ rw here (ap (λ l. item.id.0 ∷ l) (numbers-renamed old new items))
-  | inr there ↦ rw there (ap (λ l. item.id.0 ∷ l) (numbers-renamed old new items))
-]
 
 all_renamed : (P : ℕ → Type 0) (old new : List ℕ) (items : List SnapItem) → AllByRecursion (λ item. P item.id.0) items → AllByRecursion (λ item. P item.id.0) (renamed old new items)
 all_renamed P old new [] all = tt

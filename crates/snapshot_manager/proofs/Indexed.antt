@@ -13,21 +13,12 @@ use Rattle.hs_types.specs.declared.name.SnapItem.{SnapItem}
 use Rattle.snapshot_manager.specs.Snapshots.{Directory, Snapshots, IdsApart, IsHistory, IsProper, has_name, has_id, is_of, is_between, live, live_at, snaps_of, snaps_in, without, renamed}
 use Rattle.snapshot_manager.specs.Places.{NonePasses, PassesOnlyAt}
 use Rattle.snapshot_manager.specs.Owners.{owner_of, is_owner, any_between, SetsOwner, IsIndexed}
-use Rattle.snapshot_manager.proofs.Lists.{same_bool, all_weaker, find_nowhere, nowhere_from_any, any_nowhere, any_there, some_find, filter_nowhere, passes_only_at}
+use Rattle.snapshot_manager.proofs.Lists.{same_bool, all_weaker, find_nowhere, nowhere_from_any, any_nowhere, any_there, some_find, filter_nowhere, passes_only_at, place_from_find}
 use Rattle.snapshot_manager.proofs.Rising.{rising_apart}
 use Rattle.snapshot_manager.proofs.Directories.{no_dir, items_at, items_at-set, snaps_in-there, own_items}
-use Rattle.snapshot_manager.proofs.Histories.{number}
+use Rattle.snapshot_manager.proofs.Naming.{number}
 
 -- ---- what is left of a list
-
--- what a test finds stands somewhere
-pub place_from_find : {X : Type 0} (test : X → Bool) (xs : List X) (x : X) → find test xs ≡ Some x → (i : ℕ) × (slice_get xs i ≡ Some x) × (test x ≡ true)
-place_from_find test [] x found = absurd (cc)
-place_from_find test (y ∷ ys) x found = by (place_from_find test ys x) (cases_Bool (test y))
-  where
-    by : (find test ys ≡ Some x → (i : ℕ) × (slice_get ys i ≡ Some x) × (test x ≡ true)) → (test y ≡ true) ⊎ (test y ≡ false) → (i : ℕ) × (slice_get (y ∷ ys) i ≡ Some x) × (test x ≡ true)
-    by rest (inl here) = let is : Some y ≡ Some x = rw here at found in let same : y ≡ x = cc in (zero, is, subst (λ z. test z ≡ true) same here)
-    by rest (inr there) = let p = rest (rw there at found) in (suc p.0, p.1, p.2)
 
 -- what fails a test isn't missed by it
 pub any_left : {X : Type 0} (test p : X → Bool) (xs : List X) (i : ℕ) (x : X) → PassesOnlyAt test xs i → slice_get xs i ≡ Some x → p x ≡ false → list_any p (filter (λ y. not (test y)) xs) ≡ list_any p xs

@@ -151,3 +151,16 @@ map_map f g (x ∷ xs) = ap (λ l. g (f x) ∷ l) (map_map f g xs)
 -- a test that passes at one place finds something and nothing else
 pub there_not_nowhere : {X : Type 0} (test : X → Bool) (xs : List X) (i : ℕ) → PassesOnlyAt test xs i → list_any test xs ≡ false → ⊥
 there_not_nowhere test xs i there none = true≢false (sym (any_there test xs i there) ∙ none)
+
+-- what a test finds stands somewhere
+pub place_from_find : {X : Type 0} (test : X → Bool) (xs : List X) (x : X) → find test xs ≡ Some x → (i : ℕ) × (slice_get xs i ≡ Some x) × (test x ≡ true)
+place_from_find test [] x found = absurd (cc)
+place_from_find test (y ∷ ys) x found = by (place_from_find test ys x) (cases_Bool (test y))
+  where
+    by : (find test ys ≡ Some x → (i : ℕ) × (slice_get ys i ≡ Some x) × (test x ≡ true)) → (test y ≡ true) ⊎ (test y ≡ false) → (i : ℕ) × (slice_get (y ∷ ys) i ≡ Some x) × (test x ≡ true)
+    by rest (inl here) = let is : Some y ≡ Some x = rw here at found in let same : y ≡ x = cc in (zero, is, subst (λ z. test z ≡ true) same here)
+    by rest (inr there) = let p = rest (rw there at found) in (suc p.0, p.1, p.2)
+
+-- what a test finds passes it
+pub found_passes : {X : Type 0} (test : X → Bool) (xs : List X) (x : X) → find test xs ≡ Some x → test x ≡ true
+found_passes test xs x found = (place_from_find test xs x found).2

@@ -1,3 +1,4 @@
+pub mod Inside
 pub mod Owners
 pub mod Places
 pub mod Snapshots

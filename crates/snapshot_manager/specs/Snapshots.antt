@@ -23,6 +23,10 @@ has_name name item = bytes_eq name item.name
 abbrev pub has_id : SnapId → SnapItem → Bool
 has_id id item = id.0 == item.id.0
 
+-- the snapshot has a greater id
+abbrev pub is_after : SnapId → SnapItem → Bool
+is_after id item = nat_lt id.0 item.id.0
+
 -- the entry is this directory's
 abbrev pub is_of : InodeId → Directory → Bool
 is_of dir d = dir.0 == d.0.0

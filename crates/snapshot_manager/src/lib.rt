@@ -3,12 +3,8 @@
 
 mod fault;
 mod owners;
-mod places;
 mod snaps;
 mod table;
 
 pub use fault::{AddFault, RenameFault};
 pub use snaps::{SNAPSHOT_LIMIT, Snaps};
-
-#[cfg(test)]
-mod tests;

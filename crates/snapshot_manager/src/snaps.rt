@@ -1,17 +1,18 @@
 //! The snapshots of a namenode.
-ghost use Rattle.std.specs.Prelude.{◌≡◌, ◌+◌, ◌-◌, ◌<◌, ◌≤◌, ◌^◌, ◌↔◌, [], length, slice_get, false, Err, Some, IsTrue, IsSome, IfSome, IsOk, IfOk, OnOk, OnErr, IsErrOf};
+ghost use Rattle.std.specs.Prelude.{◌≡◌, ◌+◌, ◌-◌, ◌<◌, nat_lt, ◌≤◌, ◌^◌, ◌↔◌, [], length, slice_get, false, Err, Some, IsTrue, IsSome, IfSome, IsOk, IfOk, OnOk, OnErr, IsErrOf};
 ghost use Rattle.std.specs.List.{find, list_any};
 ghost use Rattle.std.specs.Option.{option_copied, option_map};
-ghost use Rattle.snapshot_manager.specs.Snapshots.{snaps_of, snaps_in, has_name, is_named, is_between, live, live_at, last_id, start, allowed, disallowed, changed, added, without, renamed, is_of, IdsApart, IsHistory, IsProper};
-ghost use Rattle.snapshot_manager.specs.Places.{PassesOnlyAt};
+ghost use Rattle.std.specs.BTreeMap.{keys};
+ghost use Rattle.snapshot_manager.specs.Snapshots.{snaps_of, snaps_in, has_name, is_named, is_after, is_between, live, live_at, last_id, start, allowed, disallowed, changed, added, without, renamed, IdsApart, IsHistory, IsProper};
 
 use crate::fault::{AddFault, RenameFault};
 use crate::owners::Owners;
-use crate::places::place_of;
 use crate::table::SnapTable;
 use hs_types::{InodeId, Name, NoMemory, SnapId, SnapItem};
 use std::alloc::Global;
+use std::collections::BTreeMap;
 use std::marker::Model;
+use std::ops::Bound::{Excluded, Unbounded};
 
 /// How many snapshots a directory may have at a time.
 pub const SNAPSHOT_LIMIT: usize = 65_536;
@@ -20,7 +21,8 @@ pub const SNAPSHOT_LIMIT: usize = 65_536;
 /// never used again.
 #[derive(Drop)]
 pub struct Snaps {
-    dirs: Vec<(InodeId, SnapTable)>,
+    alloc: Global,
+    dirs: BTreeMap<InodeId, SnapTable>,
     owners: Owners,
     issued: SnapId,
 }
@@ -31,9 +33,9 @@ impl Model for Snaps {
 
     ghost Value = { Snapshots };
 
-    ghost view = { λ s. record { dirs = s.dirs.items; issued = s.issued } };
+    ghost view = { λ s. record { dirs = s.dirs.entries; issued = s.issued } };
 
-    ghost invariant = { λ s. IsProper (record { dirs = s.dirs.items; issued = s.issued }) × IsIndexed s.owners (record { dirs = s.dirs.items; issued = s.issued }) };
+    ghost invariant = { λ s. IsProper (record { dirs = s.dirs.entries; issued = s.issued }) × IsIndexed s.owners (record { dirs = s.dirs.entries; issued = s.issued }) };
 }
 
 impl Snaps {
@@ -42,7 +44,8 @@ impl Snaps {
         ensures { result ≡ start }
     {
         Snaps {
-            dirs: Vec::new(alloc),
+            alloc,
+            dirs: BTreeMap::new(alloc),
             owners: Owners::new(alloc),
             issued: SnapId(0),
         }
@@ -54,10 +57,11 @@ impl Snaps {
         ensures err { OnErr result (self.new ≡ self.old) }
         ensures already { IsSome (snaps_of self.old dir) → IsOk result }
     {
-        if let Err(place) = place_of(&self.dirs, dir) {
-            let table = SnapTable::new(*self.dirs.allocator());
-            self.dirs.insert(place, (dir, table))?;
+        if self.dirs.contains_key(&dir) {
+            return Ok(());
         }
+        let table = SnapTable::new(self.alloc);
+        self.dirs.insert(dir, table)?;
         Ok(())
     }
 
@@ -66,9 +70,7 @@ impl Snaps {
         requires { snaps_in self.old dir ≡ [] }
         ensures { self.new ≡ disallowed dir self.old }
     {
-        if let Ok(place) = place_of(&self.dirs, dir) {
-            self.dirs.remove(place);
-        }
+        self.dirs.remove(&dir);
     }
 
     /// Makes a snapshot at the end of a directory's, with the next id. A fault leaves all as it was.
@@ -86,16 +88,15 @@ impl Snaps {
         ensures fresh { OnOk result (is_named name (snaps_in self.old dir) ≡ false) }
         ensures below_limit { OnOk result (length (snaps_in self.old dir) < SNAPSHOT_LIMIT) }
     {
-        let place = self.place_for(dir, &name)?;
+        self.has_room(dir, &name)?;
         let id = SnapId(self.issued.0 + 1);
-        self.append(place, dir, SnapItem { id, tick, name })?;
+        self.append(dir, SnapItem { id, tick, name })?;
         Ok(id)
     }
 
-    /// The place of the directory, where it may have one more snapshot, of this name.
-    fn place_for(&self, dir: InodeId, name: &Name) -> Result<usize, AddFault>
+    /// Whether the directory may have one more snapshot, of this name.
+    fn has_room(&self, dir: InodeId, name: &Name) -> Result<(), AddFault>
         requires { IsSome (snaps_of self.now dir) }
-        ensures place { IfOk result (PassesOnlyAt (is_of dir) self.now.dirs) }
         ensures fresh { OnOk result (is_named name.now (snaps_in self.now dir) ≡ false) }
         ensures below_limit { OnOk result (length (snaps_in self.now dir) < SNAPSHOT_LIMIT) }
 
@@ -104,20 +105,19 @@ impl Snaps {
             → ((is_named name.now (snaps_in self.now dir) ≡ false) × (length (snaps_in self.now dir) ≡ SNAPSHOT_LIMIT)) }
         ensures memory { IsErrOf result AddFault.NoMemory → ⊥ }
     {
-        let place = place_of(&self.dirs, dir).unwrap();
-        let table = &self.dirs[place].1;
+        let table = self.table_of(dir).unwrap();
         if table.has(name) {
             return Err(AddFault::Taken);
         }
         if table.len() >= SNAPSHOT_LIMIT {
             return Err(AddFault::Full);
         }
-        Ok(place)
+        Ok(())
     }
 
     /// Puts a snapshot at the end of a directory's.
-    fn append(&mut self, place: usize, dir: InodeId, item: SnapItem) -> Result<(), NoMemory>
-        requires place { PassesOnlyAt (is_of dir) self.old.dirs place }
+    fn append(&mut self, dir: InodeId, item: SnapItem) -> Result<(), NoMemory>
+        requires snapshottable { IsSome (snaps_of self.old dir) }
         requires id { item.id.0 ≡ self.old.issued.0 + 1 }
         requires fresh { is_named item.name (snaps_in self.old dir) ≡ false }
         requires below_limit { length (snaps_in self.old dir) < SNAPSHOT_LIMIT }
@@ -126,7 +126,7 @@ impl Snaps {
     {
         let id = item.id;
         self.owners.insert(id, dir)?;
-        let table = &mut self.dirs[place].1;
+        let table = self.dirs.get_mut(&dir).unwrap();
         if table.push(item).is_err() {
             self.owners.remove(id);
             return Err(NoMemory);
@@ -140,10 +140,7 @@ impl Snaps {
         ensures id { result ≡ option_map (λ item. item.id) (find (has_name name.now) (snaps_in self.old dir)) }
         ensures rest { self.new ≡ changed dir (without name.now) self.old }
     {
-        let Ok(place) = place_of(&self.dirs, dir) else {
-            return None;
-        };
-        let table = &mut self.dirs[place].1;
+        let table = self.dirs.get_mut(&dir)?;
         let item = table.remove(name)?;
         self.owners.remove(item.id);
         Some(item.id)
@@ -160,10 +157,9 @@ impl Snaps {
         ensures fresh { OnOk result (is_named new (snaps_in self.old dir) ≡ false) }
         ensures found { OnOk result (IsTrue (is_named old.now (snaps_in self.old dir))) }
     {
-        let Ok(place) = place_of(&self.dirs, dir) else {
+        let Some(table) = self.dirs.get_mut(&dir) else {
             return Err(RenameFault::Missing);
         };
-        let table = &mut self.dirs[place].1;
         table.rename(old, new)
     }
 
@@ -171,10 +167,7 @@ impl Snaps {
         ensures value { option_copied result ≡ snaps_of self.now dir }
         ensures history { IfSome result (λ table. IsHistory self.now.issued.0 table.now) }
     {
-        match place_of(&self.dirs, dir) {
-            Ok(place) => Some(&self.dirs[place].1),
-            Err(_) => None,
-        }
+        self.dirs.get(&dir)
     }
 
     /// How many snapshots a directory has; none where it isn't snapshottable.
@@ -192,19 +185,33 @@ impl Snaps {
         self.table_of(dir)?.get(name)
     }
 
-    /// The snapshot at this place in order of making.
+    /// The snapshot at this place in order of making, in as many steps: who goes over all of them asks `snap_after`.
     pub fn snap_at(&self, dir: InodeId, i: usize) -> Option<&SnapItem>
         ensures { option_copied result ≡ slice_get (snaps_in self.now dir) i }
     {
         self.table_of(dir)?.at(i)
     }
 
-    /// The snapshottable directory at this place by rising id.
+    /// The first snapshot of a directory that was made after the one with this id; id 0 stands before all.
+    pub fn snap_after(&self, dir: InodeId, id: SnapId) -> Option<&SnapItem>
+        ensures { option_copied result ≡ find (is_after id) (snaps_in self.now dir) }
+    {
+        self.table_of(dir)?.after(id)
+    }
+
+    /// The snapshottable directory at this place by rising id, in as many steps: who goes over all of them asks `dir_after`.
     pub fn dir_at(&self, i: usize) -> Option<InodeId>
         ensures { result ≡ option_map (λ d. d.0) (slice_get self.now.dirs i) }
     {
-        let (dir, _) = self.dirs.get(i)?;
-        Some(*dir)
+        nth_key(&self.dirs, i).copied()
+    }
+
+    /// The first snapshottable directory with a greater id.
+    pub fn dir_after(&self, dir: InodeId) -> Option<InodeId>
+        ensures { result ≡ option_map (λ d. d.0) (find (λ d. nat_lt dir.0 d.0.0) self.now.dirs) }
+    {
+        let (above, _) = self.dirs.range((Excluded(dir), Unbounded)).next()?;
+        Some(*above)
     }
 
     /// The live snapshot with this id, and its directory.
@@ -226,11 +233,17 @@ impl Snaps {
 
     /// The greatest snapshot id that was issued, 0 before the first.
     pub fn issued(&self) -> SnapId
-        ensures issued { result ≡ self.now.issued }
+        ensures { result ≡ self.now.issued }
+    {
+        self.issued
+    }
+
+    /// What holds of the snapshots at all times. It does nothing.
+    pub fn always(&self)
         ensures proper { IsProper self.now }
         ensures apart { IdsApart self.now }
     {
-        self.issued
+        let _ = &self.dirs;
     }
 
     /// Whether a live id of any directory is above `low` and at most `high`.
@@ -239,4 +252,10 @@ impl Snaps {
     {
         self.owners.any_between(low, high)
     }
+}
+
+fn nth_key(dirs: &BTreeMap<InodeId, SnapTable>, i: usize) -> Option<&InodeId>
+    ensures { option_copied result ≡ slice_get (keys dirs.now) i }
+{
+    dirs.keys().nth(i)
 }

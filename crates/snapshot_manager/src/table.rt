@@ -1,35 +1,37 @@
 //! The snapshots of one directory.
-ghost use Rattle.std.specs.Prelude.{◌≡◌, ◌-◌, ◌<◌, ◌^◌, ◌↔◌, [], ◌∷◌, ◌++◌, length, slice_get, false, Err, IsTrue, IfSome, IfNone, OnOk, OnErr};
+ghost use Rattle.std.specs.Prelude.{◌≡◌, ◌-◌, ◌<◌, ◌^◌, ◌↔◌, [], ◌∷◌, ◌++◌, length, slice_get, false, Some, Err, IsTrue, OnOk, OnErr};
 ghost use Rattle.std.specs.List.{find};
 ghost use Rattle.std.specs.Option.{option_copied};
-ghost use Rattle.snapshot_manager.specs.Snapshots.{has_name, has_id, is_named, without, renamed, NamesDiffer, IdsRise};
-ghost use Rattle.snapshot_manager.specs.Places.{NonePasses, PassesOnlyAt, with_name_at};
+ghost use Rattle.snapshot_manager.specs.Snapshots.{has_name, has_id, is_after, is_named, without, renamed, NamesDiffer};
+ghost use Rattle.snapshot_manager.specs.Inside.{AllBelow};
 
 use crate::fault::RenameFault;
 use hs_types::{Duplicate, Name, NoMemory, SnapId, SnapItem};
 use indexmap::IndexMap;
 use std::alloc::Global;
+use std::collections::BTreeMap;
 use std::marker::Model;
+use std::ops::Bound::{Excluded, Unbounded};
 
-/// The snapshots of one directory in order of making, each found by its name. A name stands twice: as the key of its entry,
-/// and in the item that callers are lent.
+/// The snapshots of one directory by rising id, which is the order of making, and the id of each name. So a name stands twice:
+/// here as a key, and in the item that callers are lent.
 #[derive(Drop)]
 pub struct SnapTable {
-    items: IndexMap<Name, SnapItem>,
+    names: IndexMap<Name, SnapId>,
+    items: BTreeMap<SnapId, SnapItem>,
 }
 
 impl Model for SnapTable {
-    ghost use Rattle.std.specs.Prelude.{◌≡◌, List};
+    ghost use Rattle.std.specs.Prelude.{List};
     ghost use Rattle.hs_types.specs.declared.name.SnapItem.{SnapItem};
-    ghost use Rattle.indexmap.specs.IndexMap.{values};
-    ghost use Rattle.snapshot_manager.specs.Snapshots.{NamesDiffer};
-    ghost use Rattle.std.specs.List.{AllByRecursion};
+    ghost use Rattle.std.specs.BTreeMap.{values};
+    ghost use Rattle.snapshot_manager.specs.Inside.{IsTable};
 
     ghost Value = { List SnapItem };
 
     ghost view = { λ t. values t.items };
 
-    ghost invariant = { λ t. AllByRecursion (λ e. e.0 ≡ e.1.name) t.items.entries × NamesDiffer (values t.items) };
+    ghost invariant = { λ t. IsTable t.names.entries t.items.entries };
 }
 
 impl SnapTable {
@@ -38,14 +40,14 @@ impl SnapTable {
         ensures { result ≡ [] }
     {
         SnapTable {
-            items: IndexMap::new(alloc),
+            names: IndexMap::new(alloc),
+            items: BTreeMap::new(alloc),
         }
     }
 
     pub fn len(&self) -> usize
         ensures len { result ≡ length self.now }
         ensures small { result < 2 ^ 63 }
-        ensures names { NamesDiffer self.now }
     {
         self.items.len()
     }
@@ -54,45 +56,55 @@ impl SnapTable {
     pub fn get(&self, name: &Name) -> Option<&SnapItem>
         ensures { option_copied result ≡ find (has_name name.now) self.now }
     {
-        self.items.get(name)
+        let id = self.names.get(name)?;
+        self.items.get(id)
     }
 
-    /// The snapshot at this place in order of making.
+    /// The snapshot at this place in order of making, in as many steps.
     pub fn at(&self, place: usize) -> Option<&SnapItem>
         ensures { option_copied result ≡ slice_get self.now place }
     {
-        let (_, item) = self.items.get_index(place)?;
+        self.items.values().nth(place)
+    }
+
+    /// The first snapshot with a greater id.
+    pub fn after(&self, id: SnapId) -> Option<&SnapItem>
+        ensures { option_copied result ≡ find (is_after id) self.now }
+    {
+        let (_, item) = self.items.range((Excluded(id), Unbounded)).next()?;
         Some(item)
     }
 
     /// The snapshot with this id.
     pub fn by_id(&self, id: SnapId) -> Option<&SnapItem>
-        requires { IdsRise self.now }
         ensures { option_copied result ≡ find (has_id id) self.now }
     {
-        match self.items.binary_search_by_key(&id.0, |_, item| item.id.0) {
-            Ok(place) => self.at(place),
-            Err(_) => None,
-        }
+        self.items.get(&id)
     }
 
     /// The snapshot that was made last.
     pub fn last(&self) -> Option<&SnapItem>
         ensures { option_copied result ≡ slice_get self.now (length self.now - 1) }
     {
-        let (_, item) = self.items.last()?;
+        let (_, item) = self.items.last_key_value()?;
         Some(item)
     }
 
     /// Puts a snapshot at the end.
     pub fn push(&mut self, item: SnapItem) -> Result<(), NoMemory>
-        requires { is_named item.name self.old ≡ false }
+        requires fresh { is_named item.name self.old ≡ false }
+        requires last { AllBelow item.id self.old }
         ensures ok { OnOk result (self.new ≡ self.old ++ item ∷ []) }
         ensures err { OnErr result (self.new ≡ self.old) }
         ensures names { OnOk result (NamesDiffer self.new) }
     {
         let key = item.name.copy()?;
-        self.items.insert(key, item)?;
+        let id = item.id;
+        self.items.insert(id, item)?;
+        if self.names.insert(key, id).is_err() {
+            self.items.remove(&id);
+            return Err(NoMemory);
+        }
         Ok(())
     }
 
@@ -102,42 +114,31 @@ impl SnapTable {
         ensures rest { self.new ≡ without name.now self.old }
         ensures names { NamesDiffer self.new }
     {
-        self.items.shift_remove(name)
+        let id = self.names.swap_remove(name)?;
+        self.items.remove(&id)
     }
 
     /// Whether there is a snapshot of this name.
     pub fn has(&self, name: &Name) -> bool
         ensures { result ≡ is_named name.now self.now }
     {
-        self.items.contains_key(name)
+        self.names.contains_key(name)
     }
 
-    /// Where the snapshot of this name stands in order of making.
-    fn place_of(&self, name: &Name) -> Option<usize>
-        ensures found { IfSome result (PassesOnlyAt (has_name name.now) self.now) }
-        ensures absent { IfNone result (NonePasses (has_name name.now) self.now) }
-    {
-        self.items.get_index_of(name)
-    }
-
-    /// Gives the snapshot at a place another name: an item of the new name is put at the end, and fills the gap that the old one
-    /// leaves.
-    fn put_name(&mut self, place: usize, name: Name) -> Result<(), NoMemory>
-        requires new { is_named name self.old ≡ false }
-        requires in_range { place < length self.old }
-        ensures ok { OnOk result (self.new ≡ with_name_at place name self.old) }
+    /// Gives the snapshot of a name another one.
+    fn put_name(&mut self, old: &Name, new: Name) -> Result<(), NoMemory>
+        requires fresh { is_named new self.old ≡ false }
+        requires there { IsTrue (is_named old.now self.old) }
+        ensures ok { OnOk result (self.new ≡ renamed old.now new self.old) }
         ensures err { OnErr result (self.new ≡ self.old) }
         ensures names { OnOk result (NamesDiffer self.new) }
     {
-        let item = &self.items[place];
-        let item = SnapItem {
-            id: item.id,
-            tick: item.tick,
-            name,
-        };
-        let key = item.name.copy()?;
-        self.items.insert(key, item)?;
-        self.items.swap_remove_index(place);
+        let key = new.copy()?;
+        let id = *self.names.get(old).unwrap();
+        self.names.insert(key, id)?;
+        self.names.swap_remove(old);
+        let item = self.items.get_mut(&id).unwrap();
+        item.name = new;
         Ok(())
     }
 
@@ -156,10 +157,10 @@ impl SnapTable {
         if self.has(&new) {
             return Err(RenameFault::Taken);
         }
-        let Some(place) = self.place_of(old) else {
+        if !self.has(old) {
             return Err(RenameFault::Missing);
-        };
-        self.put_name(place, new)?;
+        }
+        self.put_name(old, new)?;
         Ok(())
     }
 }

@@ -9,4 +9,6 @@ mod namenodes;
 #[cfg(test)]
 mod plain;
 #[cfg(test)]
+mod snapshot_manager;
+#[cfg(test)]
 mod words;

@@ -1,32 +1,30 @@
-use Rattle.std.proofs.Common.{is_some, true≢false, sym, ap, subst, ◌∙◌}
-use Rattle.std.specs.List.{insert}
-use Rattle.snapshot_manager.specs.Snapshots.{Snapshots, is_of, snaps_of, allowed}
-use Rattle.snapshot_manager.specs.Places.{IsGapFor, PassesOnlyAt}
-use Rattle.snapshot_manager.proofs.Changes.{Kept, kept_allowed, allowed-gap, allowed-there}
-use Rattle.snapshot_manager.proofs.Directories.{snaps_of-nowhere}
+use Rattle.std.proofs.Common.{◌≡◌, false, is_some, true≢false, sym, ap, subst, ◌∙◌}
+use Rattle.std.specs.Map.{lookup}
+use Rattle.snapshot_manager.specs.Snapshots.{Snapshots, snaps_of, allowed}
+use Rattle.snapshot_manager.proofs.Changes.{Kept}
 use Rattle.snapshot_manager.proofs.Histories.{none_differ}
+use Rattle.snapshot_manager.proofs.Tables.{at_dir, allowed_there, allowed_is, kept_allowed, nothing, inserted_with}
 use Rattle.snapshot_manager.proofs.snaps.Snaps.allow.Goals as goal
 
-pub invariant_of-self : goal.invariant_of-self
-invariant_of-self c =
-    let s : Snapshots = record { dirs = c.self.inside.dirs.items; issued = c.self.inside.issued } in
-    let gap : IsGapFor c.args.dir s.dirs c.in-Err.place = subst (λ l. IsGapFor c.args.dir l c.in-Err.place) c.deref.ensures.value c.in-Err.ensures.absent in
-    subst (λ l. Kept c.self.inside.owners (record s { dirs = l })) (ap (λ (items : _). insert s.dirs c.in-Err.place (c.args.dir, items)) (sym c.new-table.ensures) ∙ sym c.in_ok-insert.ensures.items) (kept_allowed c.self.inside.owners s c.args.dir c.in-Err.place c.self.invariant none_differ gap)
+pub returns-then-contains_key-clause-ok : goal.returns-then-contains_key-clause-ok
+returns-then-contains_key-clause-ok c =
+    let s : Snapshots = record { dirs = c.self.inside.dirs.entries; issued = c.self.inside.issued } in
+    sym c.self.view_is ∙ sym (allowed_there s c.args.dir (sym c.contains_key.ensures ∙ c.if-contains_key.true)) ∙ ap (allowed c.args.dir) c.self.view_is
 
 pub returns-in_err-insert-clause-already : goal.returns-in_err-insert-clause-already
 returns-in_err-insert-clause-already c =
-    let s : Snapshots = record { dirs = c.self.inside.dirs.items; issued = c.self.inside.issued } in
-    let gap : IsGapFor c.args.dir s.dirs c.in-Err.place = subst (λ l. IsGapFor c.args.dir l c.in-Err.place) c.deref.ensures.value c.in-Err.ensures.absent in
-    λ some. absurd (true≢false (sym some ∙ ap (λ v. is_some (snaps_of v c.args.dir)) (sym c.self.view_is) ∙ ap is_some (snaps_of-nowhere c.args.dir s gap.absent)))
+    let s : Snapshots = record { dirs = c.self.inside.dirs.entries; issued = c.self.inside.issued } in
+    let none : is_some (lookup (at_dir c.args.dir) s.dirs) ≡ false = sym c.contains_key.ensures ∙ c.if-contains_key.false in
+    λ some. absurd (true≢false (sym some ∙ ap (λ v. is_some (snaps_of v c.args.dir)) (sym c.self.view_is) ∙ ap is_some (nothing s c.args.dir c.self.invariant.0.dirs_rise none)))
 
-pub returns-in_ok-insert-clause-ok : goal.returns-in_ok-insert-clause-ok
-returns-in_ok-insert-clause-ok c =
-    let s : Snapshots = record { dirs = c.self.inside.dirs.items; issued = c.self.inside.issued } in
-    let gap : IsGapFor c.args.dir s.dirs c.in-Err.place = subst (λ l. IsGapFor c.args.dir l c.in-Err.place) c.deref.ensures.value c.in-Err.ensures.absent in
-    ap (λ l. record s { dirs = l }) (c.in_ok-insert.ensures.items ∙ ap (λ (items : _). insert s.dirs c.in-Err.place (c.args.dir, items)) c.new-table.ensures) ∙ sym (allowed-gap s c.args.dir c.in-Err.place gap) ∙ ap (allowed c.args.dir) c.self.view_is
+pub invariant_of-self-2 : goal.invariant_of-self-2
+invariant_of-self-2 c =
+    let s : Snapshots = record { dirs = c.self.inside.dirs.entries; issued = c.self.inside.issued } in
+    let none : is_some (lookup (at_dir c.args.dir) s.dirs) ≡ false = sym c.contains_key.ensures ∙ c.if-contains_key.false in
+    subst (λ l. Kept c.self.inside.owners (record s { dirs = l })) (sym (c.in_ok-insert.ensures.entries ∙ inserted_with c.args.dir s.dirs c.new-table.result c.new-table.ensures)) (kept_allowed s c.args.dir c.self.invariant.0.dirs_rise none c.self.inside.owners c.self.invariant none_differ)
 
-pub returns-in_default-clause-ok : goal.returns-in_default-clause-ok
-returns-in_default-clause-ok c =
-    let s : Snapshots = record { dirs = c.self.inside.dirs.items; issued = c.self.inside.issued } in
-    let there : PassesOnlyAt (is_of c.args.dir) s.dirs c.in_default.field-0 = subst (λ l. PassesOnlyAt (is_of c.args.dir) l c.in_default.field-0) c.deref.ensures.value c.in_default.ensures.found in
-    sym c.self.view_is ∙ sym (allowed-there s c.args.dir c.in_default.field-0 there) ∙ ap (allowed c.args.dir) c.self.view_is
+pub returns-clause-ok : goal.returns-clause-ok
+returns-clause-ok c =
+    let s : Snapshots = record { dirs = c.self.inside.dirs.entries; issued = c.self.inside.issued } in
+    let none : is_some (lookup (at_dir c.args.dir) s.dirs) ≡ false = sym c.contains_key.ensures ∙ c.if-contains_key.false in
+    ap (λ l. record s { dirs = l }) (c.in_ok-insert.ensures.entries ∙ inserted_with c.args.dir s.dirs c.new-table.result c.new-table.ensures) ∙ allowed_is s c.args.dir c.self.invariant.0.dirs_rise none ∙ ap (allowed c.args.dir) c.self.view_is
