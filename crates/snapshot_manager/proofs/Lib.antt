@@ -4,6 +4,7 @@ pub mod Entries
 pub mod Histories
 pub mod Indexed
 pub mod Lists
+pub mod MemberLemmas
 pub mod Naming
 pub mod OwnerLemmas
 pub mod Rising

@@ -1,0 +1,42 @@
+//! All live snapshots as one list in order of making: what each call makes of it, and what is found there.
+ghost use Rattle.snapshot_manager.specs.Members.{MembersAtStart, MembersAllowed, MembersDisallowed, MembersAdded, MembersRemoved, MembersRenamed, MembersFound, MembersLive};
+
+/// At the start there is none.
+pub fn members_at_start()
+    ensures { MembersAtStart }
+{}
+
+/// To make a directory snapshottable changes no member.
+pub fn members_allowed()
+    ensures { MembersAllowed }
+{}
+
+/// Nor does it where a directory without snapshots is snapshottable no more.
+pub fn members_disallowed()
+    ensures { MembersDisallowed }
+{}
+
+/// A new snapshot comes last.
+pub fn members_added()
+    ensures { MembersAdded }
+{}
+
+/// A snapshot goes, and the others keep their order.
+pub fn members_removed()
+    ensures { MembersRemoved }
+{}
+
+/// A snapshot gets another name in its place.
+pub fn members_renamed()
+    ensures { MembersRenamed }
+{}
+
+/// What `by_id` finds is the member with that id.
+pub fn members_found()
+    ensures { MembersFound }
+{}
+
+/// The live ids of `live_between` are those of the members.
+pub fn members_live()
+    ensures { MembersLive }
+{}
