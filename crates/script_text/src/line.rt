@@ -38,16 +38,18 @@ fn is_comment(first: &[u8]) -> bool
     matches!(first, [b'#', ..])
 }
 
-/// The sync of two directories and two snapshots.
+/// The sync of two directories, from one snapshot to another.
 fn sync_of(
     alloc: Global,
-    directories: (&[u8], &[u8]),
-    snapshots: (&[u8], &[u8]),
+    source: &[u8],
+    target: &[u8],
+    from: &[u8],
+    to: &[u8],
 ) -> Result<Command, LineFault>
-    ensures { Gives (where_texts (directories.0.now ∷ directories.1.now ∷ snapshots.0.now ∷ snapshots.1.now ∷ []) (commands.Sync (decoded directories.0.now) (decoded directories.1.now) (decoded snapshots.0.now) (decoded snapshots.1.now))) result }
+    ensures { Gives (where_texts (source.now ∷ target.now ∷ from.now ∷ to.now ∷ []) (commands.Sync (decoded source.now) (decoded target.now) (decoded from.now) (decoded to.now))) result }
 {
-    let (source, target) = two_texts(alloc, directories.0, directories.1)?;
-    let (from, to) = two_texts(alloc, snapshots.0, snapshots.1)?;
+    let (source, target) = two_texts(alloc, source, target)?;
+    let (from, to) = two_texts(alloc, from, to)?;
     Ok(Command::Sync {
         source: PathText::new(source),
         target: PathText::new(target),
@@ -61,7 +63,7 @@ fn sync_command(alloc: Global, words: &[&[u8]]) -> Result<Command, LineFault>
     ensures { Gives (plain_sync_command (map (λ word. word.now) words.now)) result }
 {
     match words {
-        [source, target, from, to] => sync_of(alloc, (source, target), (from, to)),
+        [source, target, from, to] => sync_of(alloc, source, target, from, to),
         _ => Err(LineFault::Bad(FaultKind::Words)),
     }
 }
