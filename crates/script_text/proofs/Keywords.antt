@@ -1,5 +1,5 @@
 -- A word that is no UTF-8 is no word of the language.
-use Rattle.std.proofs.Common.{◌≡◌, ℕ, ◌<◌, nat_lt, nat_le, Bool, true, false, cond, ◌&&◌, ◌||◌, bytes_eq, codes, Ok, Err, Option, Some, None, List, [], ◌∷◌, Result, get_or, zero, suc, refl, ap, ◌∙◌, subst, sym, arith}
+use Rattle.std.proofs.Common.{◌≡◌, ℕ, ◌<◌, nat_lt, nat_le, Bool, true, false, cond, ◌&&◌, bytes_eq, codes, Ok, Err, Some, None, List, [], ◌∷◌, Result, get_or, zero, suc, refl, ap, ◌∙◌, subst, sym, arith}
 use Rattle.std.specs.List.{list_all}
 use Rattle.std.specs.Map.{lookup}
 use Rattle.std.specs.Str.{IsUtf8}

@@ -1,5 +1,5 @@
 -- What is read is read today: commands of today's words, and at most 16 clients.
-use Rattle.std.proofs.Common.{◌≡◌, ℕ, ◌≤◌, ◌+◌, nat_le, Bool, true, false, cond, not, ◌&&◌, ◌==◌, bytes_eq, codes, Option, Some, None, Result, Ok, Err, List, [], ◌∷◌, ◌++◌, length, refl, ap, ◌∙◌, subst, arith}
+use Rattle.std.proofs.Common.{◌≡◌, ℕ, ◌≤◌, ◌+◌, nat_le, Bool, true, false, cond, not, ◌&&◌, ◌==◌, bytes_eq, codes, Option, Some, None, Result, Ok, Err, List, [], ◌∷◌, length, refl, ap, ◌∙◌, subst, arith}
 use Rattle.std.specs.List.{list_all, fold}
 use Rattle.std.proofs.lemmas.List.Folds.{list_all-append}
 use Rattle.std.proofs.lemmas.Bool.Decides.{nat_tests}
@@ -18,7 +18,7 @@ use Rattle.script_text.specs.declared.script.Standing.{Standing}
 use Rattle.script_text.specs.Commands.{is_text, are_texts, fits_chunk, bare_command, path_command, append_command, with_mode, with_fill, pair_command, triple_command, fitted_command, known_command, side_command, command_of, word_of, sync_command}
 use Rattle.script_text.specs.Headings.{is_finish, is_heading, is_next_client, after_setup, after_number, after_client, after_finish, after_heading}
 use Rattle.script_text.specs.Numbers.{count_of, byte_of, mode_of, decimal_of}
-use Rattle.script_text.specs.Scripts.{heading_line, command_line, full_line, line_of, start, said, with_line, or_fault, read_line, script_of, meaning_of}
+use Rattle.script_text.specs.Scripts.{heading_line, command_line, line_of, start, said, or_fault, read_line, script_of, meaning_of}
 use Rattle.script_text.specs.Today.{is_read_today, is_sync_read_today, is_command_today, is_line_today, most_commands_today}
 use Rattle.script_text.specs.Words.{is_comment, lines_of, words_of}
 

@@ -1,4 +1,4 @@
-use Rattle.std.proofs.Common.{◌≡◌, ◌<◌, true, sym, ◌∙◌, arith}
+use Rattle.std.proofs.Common.{◌≡◌, ◌<◌, true, arith}
 use Rattle.std.specs.Str.Parse.{digits_value}
 use Rattle.script_text.specs.Numbers.{is_numeral}
 use Rattle.script_text.proofs.Digits.{numeral_fits}

@@ -1,6 +1,5 @@
-use Rattle.std.proofs.Common.{rules, ◌≡◌, ◌+◌, ◌≤◌, Ok, length, arith}
+use Rattle.std.proofs.Common.{rules, ◌≡◌, ◌+◌, Ok, arith}
 use Rattle.std.specs.List.{fold}
-use Rattle.std.specs.Result.{IfErr}
 use Rattle.std.proofs.lemmas.Grind.{common_steps}
 use Rattle.script_text.specs.Words.{lines_of}
 use Rattle.script_text.specs.Scripts.{start, read_line, meaning_of, IsFaultOf}
