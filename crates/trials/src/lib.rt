@@ -9,6 +9,8 @@ mod namenodes;
 #[cfg(test)]
 mod plain;
 #[cfg(test)]
+mod scripts;
+#[cfg(test)]
 mod snapshot_manager;
 #[cfg(test)]
 mod words;
