@@ -4,6 +4,7 @@ ghost use Rattle.std.specs.List.{list_all, position};
 ghost use Rattle.script_text.specs.Words.{is_line_feed, lines_of};
 ghost use Rattle.script_text.specs.Scripts.{start as plain_start, with_line, read_line as plain_read_line, meaning_of, IsFaultOf};
 ghost use Rattle.script_text.specs.Today.{is_line_today};
+ghost use Rattle.script_text.specs.Order.{are_ordered};
 
 use crate::fault::{LineFault, ReadScriptFault, ScriptFault};
 use crate::line::{LineMeaning, line_of};
@@ -113,6 +114,8 @@ pub fn read(alloc: Global, bytes: &[u8]) -> Result<Script, ReadScriptFault>
     ensures bad { IfErr result (IsFaultOf (meaning_of bytes.now)) }
     ensures today { IfOk result (λ script. list_all is_line_today script.lines ≡ true) }
     ensures clients { IfOk result (λ script. script.clients ≤ 16) }
+    ensures few { IfOk result (λ script. length script.lines ≤ 1000) }
+    ensures order { IfOk result (λ script. are_ordered script.clients 0 script.lines ≡ true) }
 {
     let mut reading = Reading::start(alloc);
     let mut rest = bytes;

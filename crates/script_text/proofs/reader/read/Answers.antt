@@ -5,6 +5,7 @@ use Rattle.script_text.specs.Words.{lines_of}
 use Rattle.script_text.specs.Scripts.{start, read_line, meaning_of, IsFaultOf}
 use Rattle.script_text.proofs.Results.{err_at}
 use Rattle.script_text.proofs.Lines.{next_lines, bad_text, numbered}
+use Rattle.script_text.proofs.Order.{script_order}
 use Rattle.script_text.proofs.Todays.{script_today}
 use Rattle.script_text.proofs.reader.read.Goals as goal
 
@@ -32,3 +33,13 @@ pub returns-clause-clients : goal.returns-clause-clients
 returns-clause-clients c =
     let script : meaning_of c.args.bytes.now ≡ Ok c.into_script.result = first_of (search rules, grind (arith, common_steps)) in
     (script_today c.args.bytes.now c.into_script.result script).1
+
+pub returns-clause-few : goal.returns-clause-few
+returns-clause-few c =
+    let script : meaning_of c.args.bytes.now ≡ Ok c.into_script.result = first_of (search rules, grind (arith, common_steps)) in
+    (script_order c.args.bytes.now c.into_script.result script).1
+
+pub returns-clause-order : goal.returns-clause-order
+returns-clause-order c =
+    let script : meaning_of c.args.bytes.now ≡ Ok c.into_script.result = first_of (search rules, grind (arith, common_steps)) in
+    (script_order c.args.bytes.now c.into_script.result script).0
