@@ -5,4 +5,5 @@ mod Meetings
 mod Dealing
 mod Finishing
 pub mod Rows
+pub mod Order
 pub mod Numbers

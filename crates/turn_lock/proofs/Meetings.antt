@@ -7,6 +7,7 @@ use lib.ListN.{get_elem?}
 use Rattle.hs_types.specs.declared.journal.Entry.{Entry}
 use Rattle.atomic_table.specs.Table.{State, Me, step, keeps, Allows, Splits, Joins}
 use Rattle.atomic_table.proofs.Lists.{at_set, set_again}
+use Rattle.turn_lock.specs.declared.historied.Kept.{Kept}
 use Rattle.turn_lock.specs.declared.view.View.{View}
 use Rattle.turn_lock.specs.Histories.{longer}
 use Rattle.turn_lock.specs.Rule.{Has, Fits, Turned}
@@ -31,14 +32,14 @@ here : (words : List ℕ) → 0 < length words → get_elem? words 0 ≡ some (s
 here [] le = absurd (omega arith)
 here (x ∷ xs) le = refl
 
-module _ {X : Type 0} (history : X → List Entry) (limit_of : X → ℕ) (seats limit : ℕ) where
+module _ {X : Type 0} (history : X → List Entry) (kept_of : X → Kept) (seats : ℕ) (kept : Kept) where
   abbrev Rule : State (Option X) View → Type 0
-  Rule = Turned history limit_of seats limit
+  Rule = Turned history kept_of seats kept
 
-  learned_fits : (log : List Entry) (v : View) → Fits seats limit log v → Fits seats limit log (learned v)
+  learned_fits : (log : List Entry) (v : View) → Fits seats kept log v → Fits seats kept log (learned v)
   learned_fits log v f = record {
     seats_is = f.seats_is;
-    limit_is = f.limit_is;
+    kept_is = f.kept_is;
     inside = f.inside;
     seen = longer_fits v.seen v.told log f.seen f.told;
     told = prefix_nil log;
@@ -56,7 +57,7 @@ module _ {X : Type 0} (history : X → List Entry) (limit_of : X → ℕ) (seats
         keeps,
         tt,
         subst (λ (ws : List ℕ). Rule record { words = ws; homes = s.homes; views = set s.views id (learned v) }) (sym same)
-            (changes history limit_of seats limit s h s.words id v (learned v) h.words (λ z. z) (λ z. z) (λ z. z) (at, live) live (learned_fits h.log v f) (λ caller has. has) refl
+            (changes history kept_of seats kept s h s.words id v (learned v) h.words (λ z. z) (λ z. z) (λ z. z) (at, live) live (learned_fits h.log v f) (λ caller has. has) refl
             (λ on. whole on ∙ (h.holder id v (at, live) on).0)),
         (
           record {
@@ -78,11 +79,11 @@ module _ {X : Type 0} (history : X → List Entry) (limit_of : X → ℕ) (seats
       let left = without_first v in
       let right = only_first v in
       let t : Rule record { words = s.words; homes = s.homes; views = set s.views id left } =
-      changes history limit_of seats limit s h s.words id v left h.words (λ z. z) (λ z. z) (λ z. z) (at, live) live
-      (record { seats_is = f.seats_is; limit_is = f.limit_is; inside = f.inside; seen = f.seen; told = f.told; own = λ caller has. f.own caller (omega (arith, has.0), has.1) })
+      changes history kept_of seats kept s h s.words id v left h.words (λ z. z) (λ z. z) (λ z. z) (at, live) live
+      (record { seats_is = f.seats_is; kept_is = f.kept_is; inside = f.inside; seen = f.seen; told = f.told; own = λ caller has. f.own caller (omega (arith, has.0), has.1) })
       (λ caller has. (omega (arith, has.0), has.1)) refl (λ on. (h.holder id v (at, live) on).0) in
-      adds history limit_of seats limit (record { words = s.words; homes = s.homes; views = set s.views id left }) t right
-      (λ _. record { seats_is = f.seats_is; limit_is = f.limit_is; inside = omega (arith, f.inside); seen = f.seen; told = f.told; own = λ caller has. f.own caller (has.0, (let b = has.1 in omega arith)) })
+      adds history kept_of seats kept (record { words = s.words; homes = s.homes; views = set s.views id left }) t right
+      (λ _. record { seats_is = f.seats_is; kept_is = f.kept_is; inside = omega (arith, f.inside); seen = f.seen; told = f.told; own = λ caller has. f.own caller (has.0, (let b = has.1 in omega arith)) })
       refl
       (λ j u l caller hu hr. ⊎_elim
       (λ (t : (j ≡ id) × (left ≡ u)). (let a = (subst (λ (z : View). Has z caller) (sym t.1) hu).0 in let b = hr.1 in let bad : ⊥ = omega arith in bad))
@@ -95,9 +96,9 @@ module _ {X : Type 0} (history : X → List Entry) (limit_of : X → ℕ) (seats
   notes id v live s h at =
       let f = h.each_seat id v (at, live) in
       let t : Rule record { words = s.words; homes = s.homes; views = set s.views id v } =
-      changes history limit_of seats limit s h s.words id v v h.words (λ z. z) (λ z. z) (λ z. z) (at, live) live f (λ caller has. has) refl (λ on. (h.holder id v (at, live) on).0) in
-      adds history limit_of seats limit (record { words = s.words; homes = s.homes; views = set s.views id v }) t (note_of v)
-      (λ _. record { seats_is = f.seats_is; limit_is = f.limit_is; inside = omega arith; seen = f.seen; told = prefix_nil h.log; own = λ caller has. absurd (omega (arith, has.1)) })
+      changes history kept_of seats kept s h s.words id v v h.words (λ z. z) (λ z. z) (λ z. z) (at, live) live f (λ caller has. has) refl (λ on. (h.holder id v (at, live) on).0) in
+      adds history kept_of seats kept (record { words = s.words; homes = s.homes; views = set s.views id v }) t (note_of v)
+      (λ _. record { seats_is = f.seats_is; kept_is = f.kept_is; inside = omega arith; seen = f.seen; told = prefix_nil h.log; own = λ caller has. absurd (omega (arith, has.1)) })
       refl
       (λ j u l caller hu hr. (let b = hr.1 in let bad : ⊥ = omega arith in bad))
 
@@ -109,9 +110,9 @@ module _ {X : Type 0} (history : X → List Entry) (limit_of : X → ℕ) (seats
       let before : get_elem? s.views other ≡ some w = ⊎_elim (λ (t : (other ≡ id) × (informed v w ≡ w)). absurd (apart t.0)) (λ (t : (other ≢ id) × (get_elem? s.views other ≡ some w)). t.1) (at_set s.views id other (informed v w) w there) in
       let g = h.each_seat other w (before, alive) in
       let t : Rule record { words = s.words; homes = s.homes; views = set s.views id (informed v w) } =
-      changes history limit_of seats limit s h s.words id v (informed v w) h.words (λ z. z) (λ z. z) (λ z. z) (at, live) live
-      (record { seats_is = f.seats_is; limit_is = f.limit_is; inside = f.inside; seen = f.seen; told = g.seen; own = f.own }) (λ caller has. has) refl (λ on. (h.holder id v (at, live) on).0) in
-      spends history limit_of seats limit (record { words = s.words; homes = s.homes; views = set s.views id (informed v w) }) t other w there free
+      changes history kept_of seats kept s h s.words id v (informed v w) h.words (λ z. z) (λ z. z) (λ z. z) (at, live) live
+      (record { seats_is = f.seats_is; kept_is = f.kept_is; inside = f.inside; seen = f.seen; told = g.seen; own = f.own }) (λ caller has. has) refl (λ on. (h.holder id v (at, live) on).0) in
+      spends history kept_of seats kept (record { words = s.words; homes = s.homes; views = set s.views id (informed v w) }) t other w there free
 
 same_length : (xs ys : List Entry) → IsPrefix ys (longer xs ys) → length xs ≤ length ys → length ys ≤ length xs → xs ≡ ys
 same_length xs ys p le ge =

@@ -1,7 +1,7 @@
 -- Locks with one number are one lock.
-use Rattle.std.proofs.Common.{◌≡◌, ℕ, zero, suc, ◌+◌, ◌*◌, ◌<◌, List, [], ◌∷◌, refl, ap, arith}
+use Rattle.std.proofs.Common.{◌≡◌, Bool, true, false, ℕ, zero, suc, ◌+◌, ◌*◌, ◌<◌, List, [], ◌∷◌, refl, ap, arith}
 use Rattle.turn_lock.specs.Seats.{Lock}
-use Rattle.turn_lock.specs.Numbers.{shifted, packed, numbers_of, number_of}
+use Rattle.turn_lock.specs.Numbers.{shifted, packed, bit, numbers_of, number_of}
 
 positive : (n m : ℕ) → 0 < shifted n m
 positive zero m = omega arith
@@ -19,13 +19,21 @@ packed_same [] (y ∷ ys) e = (let p = positive y (packed ys) in let f : 0 ≡ s
 packed_same (x ∷ xs) [] e = (let p = positive x (packed xs) in let f : shifted x (packed xs) ≡ 0 = e in absurd (omega arith))
 packed_same (x ∷ xs) (y ∷ ys) e = let r = shifted_same x y (packed xs) (packed ys) e in let s = packed_same xs ys r.1 in λ i. r.0 i ∷ s i
 
+bit_same : (x y : Bool) → bit x ≡ bit y → x ≡ y
+bit_same true true e = refl
+bit_same true false e = absurd (omega (arith, e))
+bit_same false true e = absurd (omega (arith, e))
+bit_same false false e = refl
+
 -- no two locks have one number
 pub one_number : (a b : Lock) → number_of a ≡ number_of b → a ≡ b
 unfolding number_of
 one_number a b e =
     let s = packed_same (numbers_of a) (numbers_of b) e in
     let seats : a.seats ≡ b.seats = cc (s) in
-    let limit : a.limit ≡ b.limit = cc (s) in
+    let most : a.kept.limit ≡ b.kept.limit = cc (s) in
+    let bits : bit a.kept.tells ≡ bit b.kept.tells = cc (s) in
+    let tells : a.kept.tells ≡ b.kept.tells = bit_same a.kept.tells b.kept.tells bits in
     let words : a.table.words ≡ b.table.words = cc (s) in
     let slots : a.table.slots ≡ b.table.slots = cc (s) in
     let views_name : a.table.views_name ≡ b.table.views_name = cc (s) in
@@ -33,4 +41,4 @@ one_number a b e =
     let block : a.table.block ≡ b.table.block = cc (s) in
     let offset : a.table.offset ≡ b.table.offset = cc (s) in
     let slot_names : a.table.slot_names ≡ b.table.slot_names = cc (s) in
-    λ i. record { table = record { words = words i; slots = slots i; views_name = views_name i; atom = atom i; block = block i; offset = offset i; slot_names = slot_names i }; seats = seats i; limit = limit i }
+    λ i. record { table = record { words = words i; slots = slots i; views_name = views_name i; atom = atom i; block = block i; offset = offset i; slot_names = slot_names i }; seats = seats i; kept = record { limit = most i; tells = tells i } }

@@ -11,6 +11,7 @@ use lib.ListN.{get_elem?}
 use Rattle.hs_types.specs.declared.journal.Entry.{Entry}
 use Rattle.atomic_table.specs.Table.{State, Me, step, keeps, gives, takes, Allows, opening}
 use Rattle.atomic_table.proofs.Lists.{at_set, set_here, exchanged}
+use Rattle.turn_lock.specs.declared.historied.Kept.{Kept}
 use Rattle.turn_lock.specs.declared.view.View.{View}
 use Rattle.turn_lock.specs.Histories.{caller_of, by_caller}
 use Rattle.turn_lock.specs.Rule.{Fits, Lives, IsHome, Turned}
@@ -18,32 +19,33 @@ use Rattle.turn_lock.specs.Steps.{opener, holding, given, MayLeave, takes_turn, 
 use Rattle.turn_lock.proofs.Prefixes.{prefix_self, prefix_nil, prefix_trans, others_added, callers_added}
 use Rattle.turn_lock.proofs.Views.{each_set, callers_set, changes, adds, spends, no_holder}
 
-module _ {X : Type 0} (history : X → List Entry) (limit_of : X → ℕ) (seats limit : ℕ) where
+module _ {X : Type 0} (history : X → List Entry) (kept_of : X → Kept) (seats : ℕ) (kept : Kept) where
   abbrev Rule : State (Option X) View → Type 0
-  Rule = Turned history limit_of seats limit
+  Rule = Turned history kept_of seats kept
 
   -- the first seat alone, and the pointer at home
-  pub opens : (x : X) → history x ≡ [] → limit_of x ≡ limit → Rule (opening (0 ∷ 0 ∷ []) (Some x ∷ []) (opener seats limit))
+  pub opens : (x : X) → history x ≡ [] → kept_of x ≡ kept → Rule (opening (0 ∷ 0 ∷ []) (Some x ∷ []) (opener seats kept))
   opens x empty within = record {
     log = [];
     words = refl;
     callers = All-nil (λ e. caller_of e < seats);
-    each_seat = λ j v l. subst (Fits seats limit []) (only j v l.0).1 (record { seats_is = refl; limit_is = refl; inside = omega arith; seen = prefix_nil []; told = prefix_nil []; own = λ caller has. refl });
+    each_seat = λ j v l. subst (Fits seats kept []) (only j v l.0).1 (record { seats_is = refl; kept_is = refl; inside = omega arith; seen = prefix_nil []; told = prefix_nil []; own = λ caller has. refl });
     one_caller = λ i j v w lv lw caller hv hw. (only i v lv.0).0 ∙ sym (only j w lw.0).0;
     home = λ z. (x, refl, empty, within);
+    empty = λ n. absurd (n refl);
     away = λ n. absurd (n refl);
     holder = λ j v l on. absurd (no_holder (ap (λ (z : View). z.holds) (only j v l.0).1 ∙ on));
     one_holder = λ i j v w lv lw hv hw. (only i v lv.0).0 ∙ sym (only j w lw.0).0;
   }
     where
-      only : (j : ℕ) (v : View) → get_elem? (opener seats limit ∷ []) j ≡ some v → (j ≡ 0) × (opener seats limit ≡ v)
+      only : (j : ℕ) (v : View) → get_elem? (opener seats kept ∷ []) j ≡ some v → (j ≡ 0) × (opener seats kept ≡ v)
       only zero v e = (refl, some-injective _ _ e)
       only (suc j) v e = absurd (some-ne-none v (sym e))
 
-  fits_here : (s : State (Option X) View) (h : Rule s) (id : ℕ) (v : View) → Lives s.views id v → Fits seats limit h.log v
+  fits_here : (s : State (Option X) View) (h : Rule s) (id : ℕ) (v : View) → Lives s.views id v → Fits seats kept h.log v
   fits_here s h id v l = h.each_seat id v l
 
-  take_hit : (n : ℕ) → n ≢ 0 → (id : ℕ) (v : View) → v.live ≡ true → (s : State (Option X) View) (h : Rule s) → get_elem? s.views id ≡ some v → (free : slice_index s.words 0 ≡ 0) → (home : IsHome history limit_of limit s.homes h.log)
+  take_hit : (n : ℕ) → n ≢ 0 → (id : ℕ) (v : View) → v.live ≡ true → (s : State (Option X) View) (h : Rule s) → get_elem? s.views id ≡ some v → (free : slice_index s.words 0 ≡ 0) → (home : IsHome history kept_of kept s.homes h.log)
       → Rule record { words = set s.words 0 n; homes = set s.homes 0 none; views = set s.views id (holding v (history home.0)) }
   take_hit n up id v live s h at free home =
       let w = holding v (history home.0) in
@@ -53,10 +55,11 @@ module _ {X : Type 0} (history : X → List Entry) (limit_of : X → ℕ) (seats
         log = h.log;
         words = length-set s.words 0 n ∙ h.words;
         callers = h.callers;
-        each_seat = each_set history limit_of seats limit h.log s.views id w (λ j u ne l. h.each_seat j u l)
-            (λ _. record { seats_is = fits.seats_is; limit_is = fits.limit_is; inside = fits.inside; seen = subst (λ (l : List Entry). IsPrefix l h.log) (sym home.2) (prefix_self h.log); told = fits.told; own = λ caller has. ap (by_caller caller) (sym home.2) });
-        one_caller = callers_set history limit_of seats limit s h id v w (at, live) (λ caller has. has);
+        each_seat = each_set history kept_of seats kept h.log s.views id w (λ j u ne l. h.each_seat j u l)
+            (λ _. record { seats_is = fits.seats_is; kept_is = fits.kept_is; inside = fits.inside; seen = subst (λ (l : List Entry). IsPrefix l h.log) (sym home.2) (prefix_self h.log); told = fits.told; own = λ caller has. ap (by_caller caller) (sym home.2) });
+        one_caller = callers_set history kept_of seats kept s h id v w (at, live) (λ caller has. has);
         home = λ z. absurd (up (sym now ∙ z));
+        empty = λ _. set_here s.homes 0 none (Rattle.turn_lock.proofs.Views.at_bound s.homes 0 (some (Some home.0)) home.1);
         away = λ _. (id, w, (set_here s.views id w (Rattle.turn_lock.proofs.Views.at_bound s.views id v at), live), refl);
         holder = λ j u l on. ⊎_elim
             (λ (t : (j ≡ id) × (w ≡ u)). (ap (λ (z : View). z.seen) (sym t.1) ∙ home.2, (λ z. up (sym now ∙ z))))
@@ -75,11 +78,11 @@ module _ {X : Type 0} (history : X → List Entry) (limit_of : X → ℕ) (seats
       → Rule record { words = set s.words 0 n; homes = s.homes; views = set s.views id v }
   take_miss n up id v live s h at taken =
       let now = get_or-set_same s.words 0 n 0 (omega (arith, h.words)) in
-      changes history limit_of seats limit s h (set s.words 0 n) id v v (length-set s.words 0 n ∙ h.words) (λ z. absurd (up (sym now ∙ z))) (λ _. taken) (λ _ z. up (sym now ∙ z)) (at, live) live (h.each_seat id v (at, live)) (λ caller has. has) refl
+      changes history kept_of seats kept s h (set s.words 0 n) id v v (length-set s.words 0 n ∙ h.words) (λ z. absurd (up (sym now ∙ z))) (λ _. taken) (λ _ z. up (sym now ∙ z)) (at, live) live (h.each_seat id v (at, live)) (λ caller has. has) refl
       (λ on. (h.holder id v (at, live) on).0)
 
   -- Take: word 0 becomes a number other than 0
-  pub takes_keep : (f : ℕ → ℕ) → ((n : ℕ) → f n ≢ 0) → (slots id : ℕ) (m : Me (Option X) View) → m.0.live ≡ true → m.1 ≡ [] → Allows Rule slots id m 0 f (takes_turn history limit_of (step 0 0 0 0 none) m)
+  pub takes_keep : (f : ℕ → ℕ) → ((n : ℕ) → f n ≢ 0) → (slots id : ℕ) (m : Me (Option X) View) → m.0.live ≡ true → m.1 ≡ [] → Allows Rule slots id m 0 f (takes_turn history kept_of (step 0 0 0 0 none) m)
   takes_keep f up slots id m live bare s h long at small = dite (ℕ_discrete (slice_index s.words 0) 0)
       (λ (free : slice_index s.words 0 ≡ 0).
       let home = h.home free in
@@ -92,7 +95,7 @@ module _ {X : Type 0} (history : X → List Entry) (limit_of : X → ℕ) (seats
           (λ _. record {
             value = home.0;
             slot = ap (λ (l : List (ℕ × Option X)). (0, Some home.0) ∷ l) bare;
-            limit = home.3 ∙ sym fits.limit_is;
+            kept = home.3 ∙ sym fits.kept_is;
             finds = record {
               seen = subst (λ (l : List Entry). IsPrefix m.0.seen l) (sym home.2) fits.seen;
               own = λ caller has. ap (by_caller caller) home.2 ∙ fits.own caller has;
@@ -106,7 +109,7 @@ module _ {X : Type 0} (history : X → List Entry) (limit_of : X → ℕ) (seats
       (λ (taken : slice_index s.words 0 ≢ 0). (m.0, keeps, tt, take_miss (f (slice_index s.words 0)) (up _) id m.0 live s h at taken, ((λ z. absurd (taken z)), (λ _. refl))))
 
   -- Give back, by the holder
-  give_keeps : (slots id : ℕ) (v : View) (value : X) → v.live ≡ true → v.holds ≡ true → limit_of value ≡ v.limit → MayLeave v (history value) → 0 < slots
+  give_keeps : (slots id : ℕ) (v : View) (value : X) → v.live ≡ true → v.holds ≡ true → kept_of value ≡ v.kept → MayLeave v (history value) → 0 < slots
       → (s : State (Option X) View) (h : Rule s) → length s.homes ≡ slots → get_elem? s.views id ≡ some v
       → Rule record { words = set s.words 0 0; homes = set s.homes 0 (some (Some value)); views = set s.views id (given v (history value)) }
   give_keeps slots id v value live on within may room s h long at =
@@ -118,17 +121,18 @@ module _ {X : Type 0} (history : X → List Entry) (limit_of : X → ℕ) (seats
         log = history value;
         words = length-set s.words 0 0 ∙ h.words;
         callers = callers_added v.seen (history value) seats v may (subst (λ (l : List Entry). All (λ e. caller_of e < seats) l) (sym held.0) h.callers) fits.inside;
-        each_seat = each_set history limit_of seats limit (history value) s.views id w (λ j u ne l. others j u ne l)
+        each_seat = each_set history kept_of seats kept (history value) s.views id w (λ j u ne l. others j u ne l)
             (λ _. record {
               seats_is = fits.seats_is;
-              limit_is = fits.limit_is;
+              kept_is = fits.kept_is;
               inside = fits.inside;
               seen = prefix_self (history value);
               told = prefix_trans v.told h.log (history value) fits.told (subst (λ (l : List Entry). IsPrefix l (history value)) held.0 (may.0, may.1));
               own = λ caller has. refl;
             });
-        one_caller = callers_set history limit_of seats limit s h id v w (at, live) (λ caller has. has);
-        home = λ _. (value, set_here s.homes 0 (some (Some value)) (omega arith), refl, within ∙ fits.limit_is);
+        one_caller = callers_set history kept_of seats kept s h id v w (at, live) (λ caller has. has);
+        home = λ _. (value, set_here s.homes 0 (some (Some value)) (omega arith), refl, within ∙ fits.kept_is);
+        empty = λ n. absurd (n now);
         away = λ n. absurd (n now);
         holder = λ j u l hu. absurd (nobody_holds j u l hu);
         one_holder = λ i j a b la lb ha hb. absurd (nobody_holds i a la ha);
@@ -137,11 +141,11 @@ module _ {X : Type 0} (history : X → List Entry) (limit_of : X → ℕ) (seats
       grown : IsPrefix h.log (history value)
       grown = subst (λ (l : List Entry). IsPrefix l (history value)) (h.holder id v (at, live) on).0 (may.0, may.1)
 
-      others : (j : ℕ) (u : View) → j ≢ id → Lives s.views j u → Fits seats limit (history value) u
+      others : (j : ℕ) (u : View) → j ≢ id → Lives s.views j u → Fits seats kept (history value) u
       others j u ne l =
           let f = h.each_seat j u l in record {
             seats_is = f.seats_is;
-            limit_is = f.limit_is;
+            kept_is = f.kept_is;
             inside = f.inside;
             seen = prefix_trans u.seen h.log (history value) f.seen grown;
             told = prefix_trans u.told h.log (history value) f.told grown;
@@ -154,9 +158,9 @@ module _ {X : Type 0} (history : X → List Entry) (limit_of : X → ℕ) (seats
           (λ (t : (j ≢ id) × (get_elem? s.views j ≡ some u)). t.0 (h.one_holder j id u v (t.1, l.1) (at, live) hu on))
           (at_set s.views id j (given v (history value)) u l.0)
 
-  pub gives_keep : (slots id : ℕ) (m : Me (Option X) View) (v : View) (value : X) → m ≡ (v, (0, Some value) ∷ []) → v.live ≡ true → v.holds ≡ true → limit_of value ≡ v.limit → MayLeave v (history value) → 0 < slots
-      → Allows Rule slots id m 0 (λ _. 0) (gives_turn history limit_of (step 0 0 0 0 none) m)
-  gives_keep slots id m v value is live on within may room = subst (λ (n : Me (Option X) View). Allows Rule slots id n 0 (λ _. 0) (gives_turn history limit_of (step 0 0 0 0 none) n)) (sym is)
+  pub gives_keep : (slots id : ℕ) (m : Me (Option X) View) (v : View) (value : X) → m ≡ (v, (0, Some value) ∷ []) → v.live ≡ true → v.holds ≡ true → kept_of value ≡ v.kept → MayLeave v (history value) → 0 < slots
+      → Allows Rule slots id m 0 (λ _. 0) (gives_turn history kept_of (step 0 0 0 0 none) m)
+  gives_keep slots id m v value is live on within may room = subst (λ (n : Me (Option X) View). Allows Rule slots id n 0 (λ _. 0) (gives_turn history kept_of (step 0 0 0 0 none) n)) (sym is)
       (λ s h long at small. (given v (history value), gives, tt, give_keeps slots id v value live on within may room s h long at, (λ other e. (ap (λ (l : List (ℕ × Option X)). (given v (held_history l), [])) e))))
     where
       held_history : List (ℕ × Option X) → List Entry

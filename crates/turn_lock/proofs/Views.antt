@@ -8,6 +8,7 @@ use lib.ListN.{get_elem?}
 use Rattle.hs_types.specs.declared.journal.Entry.{Entry}
 use Rattle.atomic_table.specs.Table.{State}
 use Rattle.atomic_table.proofs.Lists.{at_set, set_here, set_else}
+use Rattle.turn_lock.specs.declared.historied.Kept.{Kept}
 use Rattle.turn_lock.specs.declared.view.View.{View}
 use Rattle.turn_lock.specs.Rule.{Has, Fits, Lives, Turned}
 use Rattle.turn_lock.specs.Steps.{nobody}
@@ -31,16 +32,16 @@ at_bound (x ∷ xs) (suc j) a e = let r = at_bound xs j a e in omega arith
 pub no_holder : false ≡ true → ⊥
 no_holder e = true≢false (sym e)
 
-module _ {X : Type 0} (history : X → List Entry) (limit_of : X → ℕ) (seats limit : ℕ) where
+module _ {X : Type 0} (history : X → List Entry) (kept_of : X → Kept) (seats : ℕ) (kept : Kept) where
   abbrev Rule : State (Option X) View → Type 0
-  Rule = Turned history limit_of seats limit
+  Rule = Turned history kept_of seats kept
 
   -- every live seat of views' fits
-  pub each_set : (log : List Entry) (views : List View) (id : ℕ) (w : View) → ((j : ℕ) (u : View) → j ≢ id → Lives views j u → Fits seats limit log u) → (w.live ≡ true → Fits seats limit log w)
-      → (j : ℕ) (u : View) → Lives (set views id w) j u → Fits seats limit log u
+  pub each_set : (log : List Entry) (views : List View) (id : ℕ) (w : View) → ((j : ℕ) (u : View) → j ≢ id → Lives views j u → Fits seats kept log u) → (w.live ≡ true → Fits seats kept log w)
+      → (j : ℕ) (u : View) → Lives (set views id w) j u → Fits seats kept log u
   each_set log views id w others mine j u l =
       ⊎_elim
-      (λ (t : (j ≡ id) × (w ≡ u)). subst (Fits seats limit log) t.1 (mine (ap (λ (z : View). z.live) t.1 ∙ l.1)))
+      (λ (t : (j ≡ id) × (w ≡ u)). subst (Fits seats kept log) t.1 (mine (ap (λ (z : View). z.live) t.1 ∙ l.1)))
       (λ (t : (j ≢ id) × (get_elem? views j ≡ some u)). others j u t.0 (t.1, l.1))
       (at_set views id j w u l.0)
 
@@ -74,7 +75,7 @@ module _ {X : Type 0} (history : X → List Entry) (limit_of : X → ℕ) (seats
 
   -- one seat's view changes, and it holds what it held
   unfoldable pub changes : (s : State (Option X) View) (h : Rule s) (words : List ℕ) (id : ℕ) (v w : View) → length words ≡ 2 → (slice_index words 0 ≡ 0 → slice_index s.words 0 ≡ 0) → (slice_index words 0 ≢ 0 → slice_index s.words 0 ≢ 0)
-      → (slice_index s.words 0 ≢ 0 → slice_index words 0 ≢ 0) → Lives s.views id v → w.live ≡ true → Fits seats limit h.log w → ((caller : ℕ) → Has w caller → Has v caller) → w.holds ≡ v.holds → (w.holds ≡ true → w.seen ≡ h.log)
+      → (slice_index s.words 0 ≢ 0 → slice_index words 0 ≢ 0) → Lives s.views id v → w.live ≡ true → Fits seats kept h.log w → ((caller : ℕ) → Has w caller → Has v caller) → w.holds ≡ v.holds → (w.holds ≡ true → w.seen ≡ h.log)
       → Rule record { words = words; homes = s.homes; views = set s.views id w }
   changes s h words id v w two zero_is up down there live fits has holds whole = record {
     log = h.log;
@@ -83,6 +84,7 @@ module _ {X : Type 0} (history : X → List Entry) (limit_of : X → ℕ) (seats
     each_seat = each_set h.log s.views id w (λ j u ne l. h.each_seat j u l) (λ _. fits);
     one_caller = callers_set s h id v w there has;
     home = λ z. h.home (zero_is z);
+    empty = λ n. h.empty (up n);
     away = λ n. let t = h.away (up n) in stays s.views id v w there live holds t.0 t.1 t.2 t.3;
     holder = held;
     one_holder = λ i j a b la lb ha hb. let x = was_set s.views id v w there has (λ e. sym holds ∙ e) i a la in let y = was_set s.views id v w there has (λ e. sym holds ∙ e) j b lb in
@@ -96,7 +98,7 @@ module _ {X : Type 0} (history : X → List Entry) (limit_of : X → ℕ) (seats
           (at_set s.views id j w u l.0)
 
   -- a seat comes, which holds nothing and has no caller of another
-  pub adds : (s : State (Option X) View) (h : Rule s) (r : View) → (r.live ≡ true → Fits seats limit h.log r) → r.holds ≡ false → ((j : ℕ) (u : View) → Lives s.views j u → (caller : ℕ) → Has u caller → Has r caller → ⊥)
+  pub adds : (s : State (Option X) View) (h : Rule s) (r : View) → (r.live ≡ true → Fits seats kept h.log r) → r.holds ≡ false → ((j : ℕ) (u : View) → Lives s.views j u → (caller : ℕ) → Has u caller → Has r caller → ⊥)
       → Rule record { words = s.words; homes = s.homes; views = s.views ++ r ∷ [] }
   adds s h r fits free apart = record {
     log = h.log;
@@ -104,10 +106,11 @@ module _ {X : Type 0} (history : X → List Entry) (limit_of : X → ℕ) (seats
     callers = h.callers;
     each_seat = λ j u l. ⊎_elim
         (λ (e : get_elem? s.views j ≡ some u). h.each_seat j u (e, l.1))
-        (λ (t : (j ≡ length s.views) × (r ≡ u)). subst (Fits seats limit h.log) t.1 (fits (ap (λ (z : View). z.live) t.1 ∙ l.1)))
+        (λ (t : (j ≡ length s.views) × (r ≡ u)). subst (Fits seats kept h.log) t.1 (fits (ap (λ (z : View). z.live) t.1 ∙ l.1)))
         (at_end s.views r u j l.0);
     one_caller = ones;
     home = h.home;
+    empty = h.empty;
     away = λ n. let t = h.away n in (t.0, t.1, (longer_at s.views r t.1 t.0 t.2.0, t.2.1), t.3);
     holder = λ j u l on. h.holder j u (old j u l on) on;
     one_holder = λ i j a b la lb ha hb. h.one_holder i j a b (old i a la ha) (old j b lb hb) ha hb;
@@ -140,6 +143,7 @@ module _ {X : Type 0} (history : X → List Entry) (limit_of : X → ℕ) (seats
     each_seat = each_set h.log s.views id nobody (λ j u ne l. h.each_seat j u l) (λ live. absurd (no_holder live));
     one_caller = λ i j a b la lb caller ha hb. h.one_caller i j a b (old i a la) (old j b lb) caller ha hb;
     home = h.home;
+    empty = h.empty;
     away = λ n. let t = h.away n in (t.0, t.1, (set_else s.views id t.0 nobody (apart t.0 t.1 t.2 t.3) ∙ t.2.0, t.2.1), t.3);
     holder = λ j u l on. h.holder j u (old j u l) on;
     one_holder = λ i j a b la lb ha hb. h.one_holder i j a b (old i a la) (old j b lb) ha hb;

@@ -2,4 +2,5 @@ pub mod Histories
 pub mod Rule
 pub mod Steps
 pub mod Seats
+pub mod Order
 pub mod Numbers

@@ -1,5 +1,5 @@
 -- A number for each lock, for a layer above that tells locks apart by number.
-use Rattle.std.specs.Prelude.{ℕ, zero, suc, ◌+◌, ◌*◌, List, [], ◌∷◌}
+use Rattle.std.specs.Prelude.{Bool, true, false, ℕ, zero, suc, ◌+◌, ◌*◌, List, [], ◌∷◌}
 use Rattle.turn_lock.specs.Seats.{Lock}
 
 -- twice and one more, doubled n times
@@ -12,8 +12,13 @@ abbrev pub packed : List ℕ → ℕ
 packed [] = 0
 packed (n ∷ ns) = shifted n (packed ns)
 
+-- a truth as a number
+abbrev pub bit : Bool → ℕ
+bit false = 0
+bit true = 1
+
 abbrev pub numbers_of : Lock → List ℕ
-numbers_of l = l.seats ∷ l.limit ∷ l.table.words ∷ l.table.slots ∷ l.table.views_name ∷ l.table.atom ∷ l.table.block ∷ l.table.offset ∷ l.table.slot_names
+numbers_of l = l.seats ∷ l.kept.limit ∷ bit l.kept.tells ∷ l.table.words ∷ l.table.slots ∷ l.table.views_name ∷ l.table.atom ∷ l.table.block ∷ l.table.offset ∷ l.table.slot_names
 
 -- the number of a lock, which no other has
 unfoldable pub number_of : Lock → ℕ

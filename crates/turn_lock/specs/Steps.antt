@@ -3,21 +3,22 @@ use Rattle.std.specs.Prelude.{◌≡◌, ◌≢◌, ℕ, ◌+◌, ◌<◌, List,
 use mathlib.Core.List.{IsPrefix}
 use Rattle.hs_types.specs.declared.journal.Entry.{Entry}
 use Rattle.atomic_table.specs.Table.{Me, Step}
+use Rattle.turn_lock.specs.declared.historied.Kept.{Kept}
 use Rattle.turn_lock.specs.declared.view.View.{View}
 use Rattle.turn_lock.specs.Histories.{caller_of, by_caller, longer}
 use Rattle.turn_lock.specs.Rule.{Has}
 
 -- the first seat of a lock, which has each of its callers until it gives them seats
-abbrev pub opener : ℕ → ℕ → View
-opener seats limit = record { live = true; holds = false; from = 0; to = seats; seats = seats; limit = limit; seen = []; told = [] }
+abbrev pub opener : ℕ → Kept → View
+opener seats kept = record { live = true; holds = false; from = 0; to = seats; seats = seats; kept = kept; seen = []; told = [] }
 
 -- the seat of one caller, between two calls
-abbrev pub at_rest : ℕ → ℕ → ℕ → List Entry → View
-at_rest seats limit caller seen = record { live = true; holds = false; from = caller; to = caller + 1; seats = seats; limit = limit; seen = seen; told = [] }
+abbrev pub at_rest : ℕ → Kept → ℕ → List Entry → View
+at_rest seats kept caller seen = record { live = true; holds = false; from = caller; to = caller + 1; seats = seats; kept = kept; seen = seen; told = [] }
 
 -- the seat that was joined away
 abbrev pub nobody : View
-nobody = record { live = false; holds = false; from = 0; to = 0; seats = 0; limit = 0; seen = []; told = [] }
+nobody = record { live = false; holds = false; from = 0; to = 0; seats = 0; kept = record { limit = 0; tells = false }; seen = []; told = [] }
 
 -- the opening seat after it gave its first caller a seat, and that seat
 abbrev pub without_first : View → View
@@ -56,12 +57,12 @@ pub record Finds (v : View) (log : List Entry) : Type 0 where
 abbrev pub MayLeave : View → List Entry → Type 0
 MayLeave v log = (rest : List Entry) × (v.seen ++ rest ≡ log) × All (λ e. Has v (caller_of e)) rest
 
-module _ {X : Type 0} (history : X → List Entry) (limit_of : X → ℕ) where
+module _ {X : Type 0} (history : X → List Entry) (kept_of : X → Kept) where
   -- what a seat has after it took the pointer
   pub record Holds (v : View) (m : Me (Option X) View) : Type 0 where
     pub value : X
     pub slot : m.1 ≡ (0, Some value) ∷ []
-    pub limit : limit_of value ≡ v.limit
+    pub kept : kept_of value ≡ v.kept
     pub finds : Finds v (history value)
     pub view : m.0 ≡ holding v (history value)
 

@@ -6,13 +6,14 @@
 #![tactic(auto)]
 
 pub mod historied;
+pub mod laws;
 pub mod lock;
 pub mod seat;
 mod steps;
 mod table;
 mod view;
 
-pub use historied::{Historied, Work};
+pub use historied::{Historied, Kept, Work};
 pub use lock::{LookNoMemory, TurnLock};
 pub use seat::TurnSeat;
 

@@ -37,7 +37,7 @@ impl<T: Historied> Model for TurnLock<T> {
 
     ghost Value = { Lock };
 
-    ghost view = { λ l. record { table = l.table.shared.table_id; seats = l.table.shared.key.seats; limit = T.limit l.table.shared.key.first.value } };
+    ghost view = { λ l. record { table = l.table.shared.table_id; seats = l.table.shared.key.seats; kept = T.kept l.table.shared.key.first.value } };
 
     ghost invariant = { λ l. (l.table.shared.table_id.words ≡ 2) × (l.table.shared.table_id.slots ≡ 1) × (0 < l.table.shared.key.seats) };
 }
@@ -51,7 +51,7 @@ impl<T: Historied> TurnLock<T> {
     ) -> Result<(TurnLock<T>, List<TurnSeat>), NoMemory>
         requires some { 0 < seats }
         requires fresh { T.history value ≡ [] }
-        ensures lock { IfOk result (λ made. (made.0.seats ≡ seats) × (made.0.limit ≡ T.limit value)) }
+        ensures lock { IfOk result (λ made. (made.0.seats ≡ seats) × (made.0.kept ≡ T.kept value)) }
         ensures order { IfOk result (λ made. AreInOrder made.0 made.1) }
         ensures fresh { IfOk result (λ made. All (λ s. s.seen ≡ []) made.1) }
     {
@@ -78,9 +78,9 @@ impl<T: Historied> TurnLock<T> {
         ensures seen { LeadsOn seat.old.caller seat.old.seen seat.new.seen }
         ensures callers { All (λ e. caller_of e < self.now.seats) seat.new.seen }
         ensures value { IfOk result (λ a. T.history (arc_value a) ≡ seat.new.seen) }
-        ensures limit { IfOk result (λ a. T.limit (arc_value a) ≡ self.now.limit) }
+        ensures kept { IfOk result (λ a. T.kept (arc_value a) ≡ self.now.kept) }
+        ensures lawful { T.lawful self.now.kept seat.new.seen }
         ensures length { IfErr result (λ e. e.length ≡ length seat.new.seen) }
-        ensures lawful { IfErr result (λ e. T.lawful self.now.limit seat.new.seen) }
     {
         let turns = &self.table.shared;
         let mut place = sit(&mut seat.badge);
@@ -95,10 +95,10 @@ impl<T: Historied> TurnLock<T> {
     /// work leaves is the lock's value from then on.
     pub fn change_alone<R: Wait, W: Work<T>>(&self, rt: &R, seat: &mut TurnSeat, work: &mut W)
         requires lock { seat.old.lock ≡ self.now }
-        requires allowed { (x : T) → MayFind seat.old (T.limit x) (T.history x) → W.allows work.old x }
-        requires limit { (x : T) (w : W) (y : T) → MayFind seat.old (T.limit x) (T.history x) → W.does work.old x w y → T.limit y ≡ T.limit x }
-        requires adds { (x : T) (w : W) (y : T) → MayFind seat.old (T.limit x) (T.history x) → W.does work.old x w y → AddsOnlyBy seat.old.caller (T.history x) (T.history y) }
-        ensures { (x : T) × (y : T) × MayFind seat.old (T.limit x) (T.history x) × W.does work.old x work.new y × (seat.new ≡ record seat.old { seen = T.history y }) }
+        requires allowed { (x : T) → MayFind seat.old (T.kept x) (T.history x) → W.allows work.old x }
+        requires kept { (x : T) (w : W) (y : T) → MayFind seat.old (T.kept x) (T.history x) → W.does work.old x w y → T.kept y ≡ T.kept x }
+        requires adds { (x : T) (w : W) (y : T) → MayFind seat.old (T.kept x) (T.history x) → W.does work.old x w y → AddsOnlyBy seat.old.caller (T.history x) (T.history y) }
+        ensures { (x : T) × (y : T) × MayFind seat.old (T.kept x) (T.history x) × W.does work.old x work.new y × (seat.new ≡ record seat.old { seen = T.history y }) }
     {
         let turns = &self.table.shared;
         let mut place = sit(&mut seat.badge);
@@ -129,7 +129,7 @@ impl<T: Historied> TurnLock<T> {
     pub fn finish<R: Wait>(self, rt: &R, seats: List<TurnSeat>) -> T
         requires lock { All (λ s. s.lock ≡ self) seats }
         requires all { AreAll self seats }
-        ensures limit { T.limit result ≡ self.limit }
+        ensures kept { T.kept result ≡ self.kept }
         ensures seen { All (λ s. LeadsOn s.caller s.seen (T.history result)) seats }
         ensures entries { EachIsSeen seats (T.history result) }
     {
@@ -145,14 +145,13 @@ impl<T: Historied> TurnLock<T> {
 // One more owner of the value, or how long its history is.
 fn copy_of<T: Historied>(value: &Arc<T>) -> Result<Arc<T>, LookNoMemory>
     ensures same { IfOk result (λ a. arc_value a ≡ arc_value value.now) }
+    ensures lawful { T.lawful (T.kept (arc_value value.now)) (T.history (arc_value value.now)) }
     ensures length { IfErr result (λ e. e.length ≡ length (T.history (arc_value value.now))) }
-    ensures lawful { IfErr result (λ e. T.lawful (T.limit (arc_value value.now)) (T.history (arc_value value.now))) }
 {
+    let length = value.length();
     match Arc::try_clone(value) {
         Ok(copy) => Ok(copy),
-        Err(_) => Err(LookNoMemory {
-            length: value.length(),
-        }),
+        Err(_) => Err(LookNoMemory { length }),
     }
 }
 
@@ -160,9 +159,9 @@ fn copy_of<T: Historied>(value: &Arc<T>) -> Result<Arc<T>, LookNoMemory>
 fn deal<T: Historied>(turns: &Turns<T>, mut first: Place<T>, seats: u32, dealt: &mut Vec<TurnSeat>)
     requires table { first.table_id ≡ turns.now.table_id }
     requires words { turns.now.table_id.words ≡ 2 }
-    requires opener { (first.me.0 ≡ opener seats first.me.0.limit) × (first.me.1 ≡ []) }
+    requires opener { (first.me.0 ≡ opener seats first.me.0.kept) × (first.me.1 ≡ []) }
     requires room { (dealt.old.items ≡ []) × (seats ≤ vec_capacity dealt.old) }
-    ensures { AreDealt first.table_id seats first.me.0.limit seats dealt.new.items }
+    ensures { AreDealt first.table_id seats first.me.0.kept seats dealt.new.items }
 {
     for _ in 0..seats {
         let place = turns.split_seat::<Deal>(&mut first);

@@ -37,7 +37,7 @@ pub(crate) fn sit<T: Historied>(badge: &mut Badge<View>) -> Place<T>
 // The seat at the table that was between two calls.
 pub(crate) fn stand_up<T: Historied>(seat: TurnSeat) -> Place<T>
     ensures table { result.table_id ≡ seat.lock.table }
-    ensures at_rest { result.me ≡ (at_rest seat.lock.seats seat.lock.limit seat.caller seat.seen, []) }
+    ensures at_rest { result.me ≡ (at_rest seat.lock.seats seat.lock.kept seat.caller seat.seen, []) }
 {
     let TurnSeat { badge } = seat;
     badge.into_seat()

@@ -18,7 +18,7 @@ pub(crate) fn take<T: Historied, R: Wait>(rt: &R, turns: &Turns<T>, place: &mut 
     requires sized { (turns.now.table_id.words ≡ 2) × (turns.now.table_id.slots ≡ 1) }
     requires at_rest { (place.old.me.0.live ≡ true) × (place.old.me.1 ≡ []) }
     ensures table { place.new.table_id ≡ place.old.table_id }
-    ensures limit { T.limit (arc_value result) ≡ place.old.me.0.limit }
+    ensures kept { T.kept (arc_value result) ≡ place.old.me.0.kept }
     ensures finds { Finds place.old.me.0 (T.history (arc_value result)) }
     ensures holds { place.new.me ≡ (holding place.old.me.0 (T.history (arc_value result)), (0, None) ∷ []) }
 {
@@ -32,7 +32,7 @@ fn wait_for_turn<T: Historied, R: Wait>(rt: &R, turns: &Turns<T>, place: &mut Pl
     requires sized { (turns.now.table_id.words ≡ 2) × (turns.now.table_id.slots ≡ 1) }
     requires at_rest { (place.old.me.0.live ≡ true) × (place.old.me.1 ≡ []) }
     ensures table { place.new.table_id ≡ place.old.table_id }
-    ensures holds { Holds (λ a. T.history (arc_value a)) (λ a. T.limit (arc_value a)) place.old.me.0 place.new.me }
+    ensures holds { Holds (λ a. T.history (arc_value a)) (λ a. T.kept (arc_value a)) place.old.me.0 place.new.me }
 {
     if turns.compare_exchange::<Take<T>>(place, 0, 0, 1) == 0 {
         return;
@@ -51,7 +51,7 @@ pub(crate) fn give_back<T: Historied>(turns: &Turns<T>, place: &mut Place<T>, va
     requires table { place.old.table_id ≡ turns.now.table_id }
     requires sized { (turns.now.table_id.words ≡ 2) × (turns.now.table_id.slots ≡ 1) }
     requires holds { (place.old.me.0.live ≡ true) × (place.old.me.0.holds ≡ true) × (place.old.me.1 ≡ (0, None) ∷ []) }
-    requires limit { T.limit (arc_value value) ≡ place.old.me.0.limit }
+    requires kept { T.kept (arc_value value) ≡ place.old.me.0.kept }
     requires may { MayLeave place.old.me.0 (T.history (arc_value value)) }
     ensures table { place.new.table_id ≡ place.old.table_id }
     ensures given { place.new.me ≡ (given place.old.me.0 (T.history (arc_value value)), []) }

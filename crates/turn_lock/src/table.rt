@@ -11,7 +11,7 @@ use std::sync::Arc;
 /// What a lock is told once, when it is made.
 #[derive(Drop)]
 pub struct Terms<T> {
-    /// Its first value, whose limit is the lock's.
+    /// Its first value. What is kept of it is kept of all that follow.
     pub first: Snapshot<T>,
     pub seats: u32,
 }
@@ -26,9 +26,9 @@ impl<T: Historied> TableRule<Option<Arc<T>>, View, Terms<T>> for Turning<T> {
     ghost use Rattle.turn_lock.specs.Rule.{Turned};
     ghost use Rattle.turn_lock.specs.Steps.{opener};
 
-    ghost holds = { λ key. Turned (λ a. T.history (arc_value a)) (λ a. T.limit (arc_value a)) key.seats (T.limit key.first.value) };
+    ghost holds = { λ key. Turned (λ a. T.history (arc_value a)) (λ a. T.kept (arc_value a)) key.seats (T.kept key.first.value) };
 
-    ghost first = { λ key. opener key.seats (T.limit key.first.value) };
+    ghost first = { λ key. opener key.seats (T.kept key.first.value) };
 }
 
 pub type Turns<T> = Shared<Option<Arc<T>>, View, Terms<T>, Turning<T>>;
@@ -45,7 +45,7 @@ impl<T: Historied> Play<Option<Arc<T>>, View> for Take<T> {
     ghost use Rattle.std.specs.Arc.{arc_value};
     ghost use Rattle.turn_lock.specs.Steps.{takes_turn};
 
-    ghost then = { takes_turn (λ a. T.history (arc_value a)) (λ a. T.limit (arc_value a)) };
+    ghost then = { takes_turn (λ a. T.history (arc_value a)) (λ a. T.kept (arc_value a)) };
 }
 
 /// The holder gives the pointer back.
@@ -57,7 +57,7 @@ impl<T: Historied> Play<Option<Arc<T>>, View> for Give<T> {
     ghost use Rattle.std.specs.Arc.{arc_value};
     ghost use Rattle.turn_lock.specs.Steps.{gives_turn};
 
-    ghost then = { gives_turn (λ a. T.history (arc_value a)) (λ a. T.limit (arc_value a)) };
+    ghost then = { gives_turn (λ a. T.history (arc_value a)) (λ a. T.kept (arc_value a)) };
 }
 
 /// A seat that was told what another has seen looks at it.

@@ -21,13 +21,14 @@ struct Ledger {
 }
 
 impl Historied for Ledger {
-    ghost use Rattle.std.specs.Prelude.{◌≤◌, length};
+    ghost use Rattle.std.specs.Prelude.{◌≤◌, length, false};
+    ghost use Rattle.turn_lock.specs.declared.historied.Kept.{Kept};
 
     ghost history = { λ l. l.entries.items };
 
-    ghost limit = { λ l. l.most };
+    ghost kept = { λ l. record { limit = l.most; tells = false } };
 
-    ghost lawful = { λ limit log. length log ≤ limit };
+    ghost lawful = { λ kept log. length log ≤ kept.limit };
 
     fn length(&self) -> u64 {
         self.entries.len() as u64

@@ -1,4 +1,5 @@
 //! What a seat knows.
+use crate::historied::Kept;
 use hs_types::{Entry, List};
 
 /// What a seat of a lock knows. No value of it is made.
@@ -12,8 +13,8 @@ pub struct View {
     pub to: u32,
     /// How many callers the lock has.
     pub seats: u32,
-    /// The limit of the lock's values.
-    pub limit: u64,
+    /// What is kept of the lock's values.
+    pub kept: Kept,
     /// A beginning of the lock's history.
     pub seen: List<Entry>,
     /// Another, which it was told at a meeting and has not looked at yet.

@@ -13,5 +13,5 @@ swap-requires g c =
     let is = c.exchange.ensures.3 ∙ ap (λ l. (was.me.0, (0, Some value) ∷ rest l)) c.requires.holds.2 in (
       search rules,
       search rules,
-      gives_keep (λ a. g.T.Historied.history (arc_value a)) (λ a. g.T.Historied.limit (arc_value a)) _ _ id.slots now.id now.me was.me.0 value is c.requires.holds.0 c.requires.holds.1 c.requires.limit c.requires.may (omega arith),
+      gives_keep (λ a. g.T.Historied.history (arc_value a)) (λ a. g.T.Historied.kept (arc_value a)) _ _ id.slots now.id now.me was.me.0 value is c.requires.holds.0 c.requires.holds.1 c.requires.kept c.requires.may (omega arith),
     )

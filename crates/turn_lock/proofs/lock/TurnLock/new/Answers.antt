@@ -9,8 +9,8 @@ use Rattle.turn_lock.proofs.lock.TurnLock.new.Goals as goal
 pub new-requires-2 : goal.new-requires-2
 new-requires-2 g c =
     let arc = c.in_ok-new.field-0 in
-    let limit = g.T.Historied.limit c.of.result.value in
+    let kept = g.T.Historied.kept c.of.result.value in
     let same : arc_value arc ≡ c.args.value = search rules in
     let items : c.push_reserved.new.self.items ≡ Some arc ∷ [] = search rules in
-    subst (λ xs. Turned (λ a. g.T.Historied.history (arc_value a)) (λ a. g.T.Historied.limit (arc_value a)) c.args.seats limit (opening (0 ∷ 0 ∷ []) xs (opener c.args.seats limit))) (sym items)
-    (opens (λ a. g.T.Historied.history (arc_value a)) (λ a. g.T.Historied.limit (arc_value a)) c.args.seats limit arc (ap g.T.Historied.history same ∙ c.requires.fresh) (ap g.T.Historied.limit (same ∙ sym c.of.ensures)))
+    subst (λ xs. Turned (λ a. g.T.Historied.history (arc_value a)) (λ a. g.T.Historied.kept (arc_value a)) c.args.seats kept (opening (0 ∷ 0 ∷ []) xs (opener c.args.seats kept))) (sym items)
+    (opens (λ a. g.T.Historied.history (arc_value a)) (λ a. g.T.Historied.kept (arc_value a)) c.args.seats kept arc (ap g.T.Historied.history same ∙ c.requires.fresh) (ap g.T.Historied.kept (same ∙ sym c.of.ensures)))
