@@ -160,7 +160,7 @@ module _ (f : ListDiff → ListDiff) (x y : Entries) (same : (d : ListDiff) → 
 
 -- ---- a record is combined
 
-in_order-undo_all : (rs : List Past) (x : Entries) → IsTrue (in_order x) → IsTrue (in_order (undo_all rs x))
+pub in_order-undo_all : (rs : List Past) (x : Entries) → IsTrue (in_order x) → IsTrue (in_order (undo_all rs x))
 in_order-undo_all [] x sorted = sorted
 in_order-undo_all (p ∷ rs) x sorted = in_order-undo p.diff _ (in_order-undo_all rs x sorted)
 

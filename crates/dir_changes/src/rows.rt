@@ -4,6 +4,7 @@ ghost use Rattle.std.specs.Option.{option_map, option_copied};
 ghost use Rattle.dir_changes.specs.Entries.{id_at};
 ghost use Rattle.dir_changes.specs.History.{children_at, marks_at, last_number, rising, started, added, removed, number_at, number_before, without_record, dropped_at, ids_of};
 ghost use Rattle.dir_changes.specs.Recorded.{past_of, marks_shown, marks_of};
+ghost use Rattle.dir_changes.specs.Sound.{IsSound};
 ghost use Rattle.dir_changes.specs.Rows.{KeepsRoom, UsesEdit, UsesStart, UsesMerge};
 
 use crate::changes::{note_added, note_removed, reserve_last};
@@ -82,7 +83,7 @@ impl DirRows {
     /// How many records there are.
     pub fn count(&self) -> usize
         ensures count { result ≡ length self.now.history.records }
-        ensures rising { IsTrue (rising 0 self.now.history.records) }
+        ensures sound { IsSound self.now.history }
     {
         self.records.len()
     }

@@ -4,7 +4,8 @@ use Rattle.dir_changes.specs.History.{DirHistory, without_record, combined_at}
 use Rattle.dir_changes.specs.Recorded.{past_of}
 use Rattle.dir_changes.specs.Sound.{IsSound}
 use Rattle.dir_changes.specs.Inside.{dir_history}
-use Rattle.dir_changes.proofs.ReadLaws.{rising-combined_at, can_undo_all-combined_at, children_at-combined_below, children_at-combined_above}
+use Rattle.dir_changes.proofs.OrderLaws.{sound-combined}
+use Rattle.dir_changes.proofs.ReadLaws.{children_at-combined_below, children_at-combined_above}
 use Rattle.dir_changes.proofs.KeptLaws.{fresh_kept}
 use Rattle.dir_changes.proofs.rows.DirRows.combine_prepared.Goals as goal
 
@@ -16,11 +17,7 @@ invariant_of-self c =
     let combined : map past_of c.combine_at.new.records.items ≡ combined_at c.args.i dir.records = c.combine_at.ensures.combined in
     let now : without_record c.args.i dir ≡ record dir { records = map past_of c.combine_at.new.records.items } = λ i. record dir { records = sym combined i } in
     record {
-      sound = subst IsSound now (record {
-        rising = rising-combined_at 0 c.args.i dir.records kept.sound.rising;
-        in_order = kept.sound.in_order;
-        undoable = can_undo_all-combined_at dir.children c.args.i dir.records kept.sound.in_order kept.sound.undoable;
-      });
+      sound = subst IsSound now (sound-combined dir kept.sound c.args.i);
       few = kept.few;
       children_room = kept.children_room;
       names_room = kept.names_room;

@@ -1,4 +1,4 @@
-use Rattle.std.proofs.Common.{length, ◌-◌, map, sym, ap, ◌∙◌}
+use Rattle.std.proofs.Common.{length, ◌-◌, sym, ap, ◌∙◌}
 use Rattle.std.specs.Prelude.{slice_get}
 use Rattle.dir_changes.specs.History.{last_number}
 use Rattle.dir_changes.proofs.SearchLaws.{last_from-last, last_from-none, slice_get-within}

@@ -5,7 +5,7 @@ use Rattle.dir_changes.specs.History.{Past, DirHistory, started, last_number}
 use Rattle.dir_changes.specs.Recorded.{past_of}
 use Rattle.dir_changes.specs.Sound.{IsSound, LastHasRoom, PairsFit, created_len, deleted_len}
 use Rattle.dir_changes.specs.Inside.{dir_history}
-use Rattle.dir_changes.proofs.ReadLaws.{rising-append, can_undo_all-started}
+use Rattle.dir_changes.proofs.OrderLaws.{sound-started}
 use Rattle.dir_changes.proofs.LastLaws.{last_has_room, pairs_fit_push, pasts_push}
 use Rattle.dir_changes.proofs.KeptLaws.{merge_kept}
 use Rattle.dir_changes.proofs.rows.DirRows.push_fresh.Goals as goal
@@ -24,11 +24,7 @@ invariant_of-self c =
     let now : started c.args.number dir ≡ record dir { records = map past_of c.push_reserved.new.self.items } = λ i. record dir { records = sym pasts i } in
     let above : last_number dir < c.args.number.0 = rw (← c.self.view_is) at c.requires.above in
     record {
-      sound = subst IsSound now (record {
-        rising = rising-append 0 dir.records past kept.sound.rising above;
-        in_order = kept.sound.in_order;
-        undoable = can_undo_all-started dir c.args.number kept.sound.undoable;
-      });
+      sound = subst IsSound now (sound-started dir kept.sound c.args.number above);
       few = kept.few;
       children_room = kept.children_room;
       names_room = kept.names_room;
