@@ -67,7 +67,7 @@ together : (t : InodeId → Bool) (more es : Entries) → IsTrue (in_order more)
 together t [] es order apart = omega arith
 together t (e ∷ more) es order apart =
     let rest : count_ids t (ids_of (with_all more es)) ≡ count_ids t (ids_of more) + count_ids t (ids_of es) = together t more es (in_order-tail e more order)
-        (λ n id h. apart n id (later n id h)) in
+    (λ n id h. apart n id (later n id h)) in
     let free : id_at e.0 (with_all more es) ≡ None = id_at-with_all e.0 more es ∙ ap (λ o. or_else o (id_at e.0 es)) (absent_below e.0 more (first (below_all name_order e.0 more) _ order)) ∙ apart e.0 e.1 head in
     let here = count-with_entry t e.0 e.1 (with_all more es) free in omega (arith, here, rest)
   where
@@ -91,7 +91,7 @@ one_more e a [] free order = refl
 one_more e a (f ∷ b) free order =
     let rest = one_more e a b free (in_order-tail f b order) in
     elim (same_name f.0 e.0) as (λ x. same_name f.0 e.0 ≡ x
-        → length (cond (is_some (cond x (Some e.1) (id_at f.0 a))) (f ∷ among (e ∷ a) b) (among (e ∷ a) b)) ≡ one_where (has e.0 (f ∷ b)) + length (among a (f ∷ b))) [
+    → length (cond (is_some (cond x (Some e.1) (id_at f.0 a))) (f ∷ among (e ∷ a) b) (among (e ∷ a) b)) ≡ one_where (has e.0 (f ∷ b)) + length (among a (f ∷ b))) [
       | true ↦ λ is.
           let key : f.0 ≡ e.0 = same_name_so f.0 e.0 is in
           let gone : has e.0 b ≡ false = ap (λ (n : List ℕ). has n b) (sym key) ∙ ap is_some (absent_behind f b order) in
@@ -138,7 +138,7 @@ module _ (a b : ListDiff) (es : Entries) (can_b : IsTrue (can_undo b es)) (can_a
   deleted_apart : (n : List ℕ) (id : InodeId) → id_at n (without a.created b.deleted) ≡ Some id → id_at n a.deleted ≡ None
   deleted_apart n id h = by_rest (has n a.created) (id_at n b.deleted) id (sym (id_at-without n a.created b.deleted) ∙ h)
       (λ free there. none_or (id_at n a.deleted) (λ both. none_some
-          (sym ((undo_facts a (undo b es) can_a).deleted_gone n both) ∙ ap (λ t. cond t None (id_at n (undo b es))) free ∙ id_at-undo n b es ∙ ap (λ o. or_else o (cond (has n b.created) None (id_at n es))) there)))
+      (sym ((undo_facts a (undo b es) can_a).deleted_gone n both) ∙ ap (λ t. cond t None (id_at n (undo b es))) free ∙ id_at-undo n b es ∙ ap (λ o. or_else o (cond (has n b.created) None (id_at n es))) there)))
 
   -- what the later one created isn't left of what the earlier one did
   created_apart : (n : List ℕ) (id : InodeId) → id_at n b.created ≡ Some id → id_at n (without b.deleted a.created) ≡ None
@@ -148,8 +148,8 @@ module _ (a b : ListDiff) (es : Entries) (can_b : IsTrue (can_undo b es)) (can_a
       by None e both = true_false (sym both)
       by (Some k) e both = by_rest (has n b.deleted) (id_at n a.created) k (sym (id_at-without n b.deleted a.created) ∙ e)
           (λ free there. none_some
-              (sym (gone (id_at n b.deleted) free)
-              ∙ sym (id_at-undo n b es) ∙ (undo_facts a (undo b es) can_a).created_there n k there))
+          (sym (gone (id_at n b.deleted) free)
+          ∙ sym (id_at-undo n b es) ∙ (undo_facts a (undo b es) can_a).created_there n k there))
         where
           gone : (o : Option InodeId) → is_some o ≡ false → or_else o (cond (has n b.created) None (id_at n es)) ≡ None
           gone None free = ap (λ c. cond (is_some c) None (id_at n es)) h
@@ -314,11 +314,11 @@ one_with : (t : InodeId → Bool) (name : List ℕ) (id : InodeId) (es : Entries
 one_with t name id [] order h = absurd (none_some h)
 one_with t name id (e ∷ es) order h = elim (eq_by_cmp name_order name e.0) as (λ b. eq_by_cmp name_order name e.0 ≡ b → cond b (Some e.1) (id_at name es) ≡ Some id
     → count_ids t (ids_of (cond b (e ∷ where_key name_order (eq_by_cmp name_order name) es) (where_key name_order (eq_by_cmp name_order name) es))) ≡ one_where (t id)) [
-  | true ↦ λ is k.
-      let none = none_with t name es (ap (λ (n : List ℕ). id_at n es) (same_name_so name e.0 is) ∙ absent_behind e es order) in
-      let same = ap {B = ℕ} (λ (i : InodeId). one_where (t i)) (same_some k) in omega (arith, none, same)
-  | false ↦ λ _ k. one_with t name id es (in_order-tail e es order) k
-] refl h
+      | true ↦ λ is k.
+          let none = none_with t name es (ap (λ (n : List ℕ). id_at n es) (same_name_so name e.0 is) ∙ absent_behind e es order) in
+          let same = ap {B = ℕ} (λ (i : InodeId). one_where (t i)) (same_some k) in omega (arith, none, same)
+      | false ↦ λ _ k. one_with t name id es (in_order-tail e es order) k
+    ] refl h
 
 count-without_name : (t : InodeId → Bool) (name : List ℕ) (id : InodeId) (es : Entries) → IsTrue (in_order es) → id_at name es ≡ Some id → count_ids t (ids_of (without_name name es)) + one_where (t id) ≡ count_ids t (ids_of es)
 count-without_name t name id es order there =
@@ -347,13 +347,13 @@ module _ (name : List ℕ) (id : InodeId) (es : Entries) (there : id_at name es 
   removed_deleted t [] can = refl
   removed_deleted t (p ∷ []) can = elim (holds p.diff.created (name, id)) as (λ b. holds p.diff.created (name, id) ≡ b
       → count_ids t (ids_of (cond b (record p.diff { created = without_name name p.diff.created }) (record p.diff { deleted = with_entry name id p.diff.deleted })).deleted ++ []) ≡ count_ids t (ids_of p.diff.deleted ++ []) + cond (not b) (one_where (t id)) 0) [
-    | true ↦ λ _. omega arith
-    | false ↦ λ other.
-        let here = count-with_entry t name id p.diff.deleted (not_deleted name id p.diff es there (second true _ can) other) in
-        let a = count-append t (ids_of (with_entry name id p.diff.deleted)) [] in
-        let b = count-append t (ids_of p.diff.deleted) [] in
-        omega (arith, here, a, b)
-  ] refl
+        | true ↦ λ _. omega arith
+        | false ↦ λ other.
+            let here = count-with_entry t name id p.diff.deleted (not_deleted name id p.diff es there (second true _ can) other) in
+            let a = count-append t (ids_of (with_entry name id p.diff.deleted)) [] in
+            let b = count-append t (ids_of p.diff.deleted) [] in
+            omega (arith, here, a, b)
+      ] refl
   removed_deleted t (p ∷ q ∷ rs) can =
       let rest = removed_deleted t (q ∷ rs) (first (can_undo_all (q ∷ rs) es) _ can) in
       let a = count-append t (ids_of p.diff.deleted) (deleted_ids (change_last (note_removed name id) (q ∷ rs))) in
@@ -364,9 +364,9 @@ module _ (name : List ℕ) (id : InodeId) (es : Entries) (there : id_at name es 
   removed_created [] order = refl
   removed_created (p ∷ []) order = elim (holds p.diff.created (name, id)) as (λ b. holds p.diff.created (name, id) ≡ b
       → length (cond b (record p.diff { created = without_name name p.diff.created }) (record p.diff { deleted = with_entry name id p.diff.deleted })).created + 0 + one_where b ≡ length p.diff.created + 0) [
-    | true ↦ λ made. let here = length-without_name name id p.diff.created order.0 (is_that_so id _ made) in omega (arith, here)
-    | false ↦ λ _. omega arith
-  ] refl
+        | true ↦ λ made. let here = length-without_name name id p.diff.created order.0 (is_that_so id _ made) in omega (arith, here)
+        | false ↦ λ _. omega arith
+      ] refl
   removed_created (p ∷ q ∷ rs) order = let rest = removed_created (q ∷ rs) order.2 in omega (arith, rest)
 
 chosen : (b : Bool) (n : ℕ) → cond b n 0 + cond b 0 n ≡ n

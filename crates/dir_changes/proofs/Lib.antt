@@ -11,3 +11,6 @@ pub mod LastLaws
 pub mod CombineLaws
 pub mod CombineAtLaws
 pub mod KeptLaws
+pub mod TogetherLaws
+pub mod RowLaws
+pub mod HalvesLaws

@@ -35,9 +35,11 @@ ordered-append (r ∷ rs) p order new = (order.0, order.1, ordered-append rs p o
 
 ordered-taken : (p : Past) (rs : List Past) (i : ℕ) → DiffsInOrder (p ∷ rs) → DiffsInOrder (taken p rs i)
 ordered-taken p [] i order = order
-ordered-taken p (l ∷ rs) zero order =
-    (in_order-with_all l.diff.created (without l.diff.deleted p.diff.created) (in_order-without l.diff.deleted p.diff.created order.0),
-      in_order-with_all (without p.diff.created l.diff.deleted) p.diff.deleted order.1, order.2.2)
+ordered-taken p (l ∷ rs) zero order = (
+  in_order-with_all l.diff.created (without l.diff.deleted p.diff.created) (in_order-without l.diff.deleted p.diff.created order.0),
+  in_order-with_all (without p.diff.created l.diff.deleted) p.diff.deleted order.1,
+  order.2.2,
+)
 ordered-taken p (l ∷ rs) (suc i) order = (order.0, order.1, ordered-taken l rs i order.2)
 
 ordered-combined_at : (i : ℕ) (rs : List Past) → DiffsInOrder rs → DiffsInOrder (combined_at i rs)

@@ -121,7 +121,7 @@ marks_at-current dir m s above le = zero_or_above s m dir.marks _ _ (λ e. absur
 
 -- ---- the last record is changed
 
-last_from-change_last : (f : ListDiff → ListDiff) (n : ℕ) (rs : List Past) → last_from n (change_last f rs) ≡ last_from n rs
+pub last_from-change_last : (f : ListDiff → ListDiff) (n : ℕ) (rs : List Past) → last_from n (change_last f rs) ≡ last_from n rs
 last_from-change_last f n [] = refl
 last_from-change_last f n (p ∷ []) = refl
 last_from-change_last f n (p ∷ q ∷ rs) = last_from-change_last f p.number.0 (q ∷ rs)

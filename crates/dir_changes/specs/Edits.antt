@@ -1,6 +1,7 @@
 -- What an edit and a merge do to the counts of a directory.
-use Rattle.std.specs.Prelude.{◌≡◌, ℕ, ◌+◌, ◌<◌, if◌then◌else◌, List, length}
+use Rattle.std.specs.Prelude.{◌≡◌, ℕ, ◌+◌, ◌<◌, if◌then◌else◌, List, length, Some}
 use Rattle.hs_types.specs.declared.ids.InodeId.{InodeId}
+use Rattle.dir_changes.specs.Entries.{id_at}
 use Rattle.dir_changes.specs.History.{DirHistory, last_number, number_before}
 use Rattle.dir_changes.specs.Counts.{one_where, same_id, times, times_named, created_in, deleted_in, one_if_recorded, last_created, goes_to_deleted, created_gone}
 
@@ -19,6 +20,9 @@ pub record CountsRemoved (name : List ℕ) (id : InodeId) (before after : DirHis
   pub deleted : deleted_in after.records ≡ deleted_in before.records + one_where (goes_to_deleted name id before.records)
   pub records : length after.records ≡ length before.records
   pub named : (x : InodeId) → times_named x after + (if goes_to_deleted name id before.records then 0 else one_where (same_id id x)) ≡ times_named x before
+
+abbrev pub RemovedCounts : List ℕ → DirHistory → DirHistory → Type 0
+RemovedCounts name before after = (id : InodeId) → id_at name before.children ≡ Some id → CountsRemoved name id before after
 
 -- record i combined: each id that is handed back was in one deleted list more, and in a created list too but for the first record's
 pub record CountsCombined (i : ℕ) (ids : List InodeId) (before after : DirHistory) : Type 0 where

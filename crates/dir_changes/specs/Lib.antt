@@ -10,4 +10,5 @@ pub mod Edits
 pub mod Laws
 pub mod Rows
 pub mod Spare
+pub mod Together
 pub mod Inside

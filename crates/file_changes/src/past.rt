@@ -167,11 +167,7 @@ fn unless_bare(past: Box<FilePast>) -> Option<Box<FilePast>>
 }
 
 /// Removes record `i`, and hands out the blocks that no other state names.
-pub fn drop_record(
-    past: &mut Option<Box<FilePast>>,
-    i: usize,
-    current: &FileState,
-) -> List<BlockId>
+pub fn drop_record(past: &mut Option<Box<FilePast>>, i: usize, current: &FileState) -> List<BlockId>
     requires there { i < length (records_in past.old) }
     requires kept { IsPastKept current.now.spot past.old }
     ensures records { records_in past.new ≡ remove (records_in past.old) i }

@@ -226,6 +226,3 @@ impl FileRows {
         }
     }
 }
-
-#[cfg(test)]
-mod tests;
