@@ -5,7 +5,7 @@ use Rattle.std.specs.Prelude.{remove}
 use Rattle.dir_changes.specs.declared.recorded.DirRecord.{DirRecord}
 use Rattle.dir_changes.specs.History.{with_later, taken, combined_at, cancelled, dropped_behind, dropped_at}
 use Rattle.dir_changes.specs.Recorded.{past_of, diff_of}
-use Rattle.dir_changes.specs.Sound.{LastHasRoom, PairsFit}
+use Rattle.dir_changes.specs.Spare.{LastHasRoom, PairsFit}
 
 -- the record before stays in its place
 pub get_or-before : (rs : List DirRecord) (j : ℕ) (d : DirRecord) → suc j < length rs → get_or (remove rs (suc j)) j d ≡ get_or rs j d

@@ -6,6 +6,7 @@ use Rattle.dir_changes.specs.History.{DirHistory, last_number, children_at, mark
 use Rattle.dir_changes.specs.Sound.{IsSound}
 use Rattle.dir_changes.proofs.UndoLaw.{in_order-with_entry}
 use Rattle.dir_changes.proofs.EditLaws.{undo-note_added, can_undo-note_added, undo-note_removed, can_undo-note_removed, in_order-without_name}
+use Rattle.dir_changes.proofs.OrderLaws.{ordered-change_last, ordered-note_added, ordered-note_removed}
 use Rattle.dir_changes.proofs.ReadLaws.{zero_or_above, rising-change_last, marks_from-change_last, can_undo_all-change_last, reads-change_last}
 
 module _ (name : List ℕ) (id : InodeId) (dir : DirHistory) (sound : IsSound dir) (absent : id_at name dir.children ≡ None) where
@@ -13,6 +14,7 @@ module _ (name : List ℕ) (id : InodeId) (dir : DirHistory) (sound : IsSound di
   sound-added = record {
     rising = rising-change_last (note_added name id) 0 dir.records sound.rising;
     in_order = in_order-with_entry name id dir.children sound.in_order;
+    ordered = ordered-change_last (note_added name id) (ordered-note_added name id) dir.records sound.ordered;
     undoable = can_undo_all-change_last (note_added name id) dir.children (with_entry name id dir.children)
         (λ d can. undo-note_added name id d dir.children absent can sound.in_order) (λ d can. can_undo-note_added name id d dir.children absent can) dir.records sound.undoable;
   }
@@ -30,6 +32,7 @@ module _ (name : List ℕ) (id : InodeId) (dir : DirHistory) (sound : IsSound di
   sound-removed = record {
     rising = rising-change_last (note_removed name id) 0 dir.records sound.rising;
     in_order = in_order-without_name name dir.children sound.in_order;
+    ordered = ordered-change_last (note_removed name id) (ordered-note_removed name id) dir.records sound.ordered;
     undoable = can_undo_all-change_last (note_removed name id) dir.children (without_name name dir.children)
         (λ d can. undo-note_removed name id d dir.children sound.in_order there can) (λ d can. can_undo-note_removed name id d dir.children sound.in_order there can) dir.records sound.undoable;
   }

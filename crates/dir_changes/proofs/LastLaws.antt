@@ -4,7 +4,7 @@ use Rattle.dir_changes.specs.declared.recorded.DirRecord.{DirRecord}
 use Rattle.dir_changes.specs.Undo.{ListDiff}
 use Rattle.dir_changes.specs.History.{change_last}
 use Rattle.dir_changes.specs.Recorded.{past_of, noted}
-use Rattle.dir_changes.specs.Sound.{LastHasRoom, PairsFit}
+use Rattle.dir_changes.specs.Spare.{LastHasRoom, PairsFit}
 
 -- the records before stay, and the last one is noted
 pub pasts_changed : (f : ListDiff → ListDiff) (front : List DirRecord) (r s : DirRecord) → past_of s ≡ noted f (past_of r) → map past_of (front ++ s ∷ []) ≡ change_last f (map past_of (front ++ r ∷ []))

@@ -1,7 +1,9 @@
 pub mod UndoLaw
 pub mod EditLaws
 pub mod ReadLaws
+pub mod OrderLaws
 pub mod DirLaws
+pub mod CountLaws
 pub mod PlaceLaws
 pub mod MergeLaws
 pub mod SearchLaws
@@ -9,3 +11,6 @@ pub mod LastLaws
 pub mod CombineLaws
 pub mod CombineAtLaws
 pub mod KeptLaws
+pub mod TogetherLaws
+pub mod RowLaws
+pub mod HalvesLaws

@@ -121,7 +121,7 @@ marks_at-current dir m s above le = zero_or_above s m dir.marks _ _ (λ e. absur
 
 -- ---- the last record is changed
 
-last_from-change_last : (f : ListDiff → ListDiff) (n : ℕ) (rs : List Past) → last_from n (change_last f rs) ≡ last_from n rs
+pub last_from-change_last : (f : ListDiff → ListDiff) (n : ℕ) (rs : List Past) → last_from n (change_last f rs) ≡ last_from n rs
 last_from-change_last f n [] = refl
 last_from-change_last f n (p ∷ []) = refl
 last_from-change_last f n (p ∷ q ∷ rs) = last_from-change_last f p.number.0 (q ∷ rs)
@@ -160,7 +160,7 @@ module _ (f : ListDiff → ListDiff) (x y : Entries) (same : (d : ListDiff) → 
 
 -- ---- a record is combined
 
-in_order-undo_all : (rs : List Past) (x : Entries) → IsTrue (in_order x) → IsTrue (in_order (undo_all rs x))
+pub in_order-undo_all : (rs : List Past) (x : Entries) → IsTrue (in_order x) → IsTrue (in_order (undo_all rs x))
 in_order-undo_all [] x sorted = sorted
 in_order-undo_all (p ∷ rs) x sorted = in_order-undo p.diff _ (in_order-undo_all rs x sorted)
 

@@ -5,6 +5,10 @@ pub mod Children
 pub mod Merge
 pub mod Recorded
 pub mod Sound
+pub mod Counts
+pub mod Edits
+pub mod Laws
 pub mod Rows
 pub mod Spare
+pub mod Together
 pub mod Inside

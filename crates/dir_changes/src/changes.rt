@@ -2,7 +2,7 @@
 ghost use Rattle.std.specs.Prelude.{◌≡◌, ℕ, ◌+◌, ◌<◌, ◌≤◌, map, OnOk, vec_len, vec_capacity};
 ghost use Rattle.dir_changes.specs.History.{change_last, note_added as with_added, note_removed as with_removed};
 ghost use Rattle.dir_changes.specs.Recorded.{past_of};
-ghost use Rattle.dir_changes.specs.Sound.{LastHasRoom, PairsFit, created_len, deleted_len};
+ghost use Rattle.dir_changes.specs.Spare.{LastHasRoom, PairsFit, created_len, deleted_len};
 
 use crate::child::Child;
 use crate::name_room::NameRoom;
@@ -59,10 +59,10 @@ fn copy_of(name: &Name, names: &mut Vec<NameRoom>) -> Name
     }
 }
 
-/// Makes room for three entries more in both lists of the last record.
-pub fn reserve_last(records: &mut Vec<DirRecord>) -> Result<(), NoMemory>
+/// Makes room for so many entries more in both lists of the last record.
+pub fn reserve_last(records: &mut Vec<DirRecord>, more: usize) -> Result<(), NoMemory>
     ensures same { map past_of records.new.items ≡ map past_of records.old.items }
-    ensures ok { OnOk result (LastHasRoom 3 records.new.items) }
+    ensures ok { OnOk result (LastHasRoom more records.new.items) }
     ensures last_room { (n : ℕ) → LastHasRoom n records.old.items → LastHasRoom n records.new.items }
     ensures created_fit { (most : ℕ) → PairsFit created_len most records.old.items → PairsFit created_len most records.new.items }
     ensures deleted_fit { (most : ℕ) → PairsFit deleted_len most records.old.items → PairsFit deleted_len most records.new.items }
@@ -71,7 +71,7 @@ pub fn reserve_last(records: &mut Vec<DirRecord>) -> Result<(), NoMemory>
 {
     match records.pop() {
         Some(mut last) => {
-            let reserved = reserve_lists(&mut last);
+            let reserved = reserve_lists(&mut last, more);
             records.push_reserved(last);
             reserved
         }
@@ -79,14 +79,14 @@ pub fn reserve_last(records: &mut Vec<DirRecord>) -> Result<(), NoMemory>
     }
 }
 
-/// Makes room for three entries more in both lists.
-fn reserve_lists(last: &mut DirRecord) -> Result<(), NoMemory>
+/// Makes room for so many entries more in both lists.
+fn reserve_lists(last: &mut DirRecord, more: usize) -> Result<(), NoMemory>
     ensures same { past_of last.new ≡ past_of last.old }
-    ensures ok { OnOk result ((3 ≤ last.new.created.room) × (3 ≤ last.new.deleted.room)) }
+    ensures ok { OnOk result ((more ≤ last.new.created.room) × (more ≤ last.new.deleted.room)) }
     ensures created_room { last.old.created.room ≤ last.new.created.room }
     ensures deleted_room { last.old.deleted.room ≤ last.new.deleted.room }
 {
-    last.created.reserve(3)?;
-    last.deleted.reserve(3)?;
+    last.created.reserve(more)?;
+    last.deleted.reserve(more)?;
     Ok(())
 }

@@ -1,5 +1,5 @@
 //! A child list: entries in the order of their names.
-ghost use Rattle.std.specs.Prelude.{◌≡◌, ◌+◌, ◌<◌, ◌≤◌, ◌↔◌, [], length, slice_get, IsTrue, IfOk, IfSome, OnOk, vec_len, vec_capacity};
+ghost use Rattle.std.specs.Prelude.{◌≡◌, ℕ, ◌+◌, ◌<◌, ◌≤◌, ◌↔◌, [], length, slice_get, IsTrue, IfOk, IfSome, IsOk, OnOk, vec_len, vec_capacity};
 ghost use Rattle.std.specs.Option.{option_map, option_copied};
 ghost use Rattle.dir_changes.specs.Entries.{in_order, id_at, with_entry, without_name};
 
@@ -30,7 +30,7 @@ impl Model for Children {
 
 impl Children {
     /// An empty list. It takes no memory yet.
-    pub fn new(alloc: Global) -> Children
+    pub(crate) fn new(alloc: Global) -> Children
         ensures { result.entries ≡ [] }
     {
         Children {
@@ -39,7 +39,7 @@ impl Children {
     }
 
     /// An empty list with room for that many entries.
-    pub fn with_room(alloc: Global, room: usize) -> Result<Children, NoMemory>
+    pub(crate) fn with_room(alloc: Global, room: usize) -> Result<Children, NoMemory>
         ensures empty { IfOk result (λ list. list.entries ≡ []) }
         ensures room { IfOk result (λ list. room ≤ list.room) }
     {
@@ -49,7 +49,7 @@ impl Children {
     }
 
     /// Holds these entries, and takes no memory.
-    pub fn of_vec(entries: Vec<Child>) -> Children
+    pub(crate) fn of_vec(entries: Vec<Child>) -> Children
         requires { IsTrue (in_order entries.items) }
         ensures entries { result.entries ≡ entries.items }
         ensures room { vec_capacity entries ≡ result.room + vec_len entries }
@@ -58,7 +58,7 @@ impl Children {
     }
 
     /// Gives the vector back, and takes no memory.
-    pub fn into_vec(self) -> Vec<Child>
+    pub(crate) fn into_vec(self) -> Vec<Child>
         ensures entries { result.items ≡ self.entries }
         ensures in_order { IsTrue (in_order self.entries) }
     {
@@ -98,18 +98,35 @@ impl Children {
         search::id_of(self.entries.as_slice(), name)
     }
 
+    /// The allocator that the list takes memory from.
+    pub(crate) fn allocator(&self) -> Global {
+        *self.entries.allocator()
+    }
+
     /// Makes room for that many entries more.
-    pub fn reserve(&mut self, more: usize) -> Result<(), NoMemory>
+    pub(crate) fn reserve(&mut self, more: usize) -> Result<(), NoMemory>
         ensures same { self.new.entries ≡ self.old.entries }
         ensures ok { OnOk result (more ≤ self.new.room) }
         ensures room { self.old.room ≤ self.new.room }
+        ensures succeeds { more ≤ self.old.room → IsOk result }
     {
         self.entries.reserve(more)?;
         Ok(())
     }
 
+    /// Gives memory back where there is more than twice what the entries and `keep` more take.
+    pub(crate) fn shrink(&mut self, keep: usize)
+        ensures same { self.new.entries ≡ self.old.entries }
+        ensures room { (n : ℕ) → n ≤ keep → n ≤ self.old.room → n ≤ self.new.room }
+    {
+        let wanted = self.entries.len().saturating_add(keep);
+        if self.entries.capacity() / 2 > wanted {
+            self.entries.shrink_to(wanted);
+        }
+    }
+
     /// Puts an entry in its place, where there is room. One with its name makes way for it.
-    pub fn put(&mut self, child: Child)
+    pub(crate) fn put(&mut self, child: Child)
         requires { 0 < self.old.room }
         ensures put { self.new.entries ≡ with_entry child.0 child.1 self.old.entries }
         ensures len { length self.new.entries ≤ length self.old.entries + 1 }
@@ -125,7 +142,7 @@ impl Children {
     }
 
     /// Takes the entry of that name out. `None` exactly where it isn't there.
-    pub fn take(&mut self, name: &Name) -> Option<Child>
+    pub(crate) fn take(&mut self, name: &Name) -> Option<Child>
         ensures found { option_map (λ child. child.1) result ≡ id_at name.now self.old.entries }
         ensures name { IfSome result (λ child. child.0 ≡ name.now) }
         ensures taken { self.new.entries ≡ without_name name.now self.old.entries }

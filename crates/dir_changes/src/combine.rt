@@ -2,10 +2,10 @@
 ghost use Rattle.std.specs.Prelude.{◌≡◌, ℕ, ◌+◌, ◌<◌, ◌≤◌, [], ◌++◌, IsTrue, length, map, take, drop, vec_len, vec_capacity};
 ghost use Rattle.std.specs.VecDeque.{deque_len};
 ghost use Rattle.dir_changes.specs.Entries.{in_order, among, without, with_all};
+ghost use Rattle.dir_changes.specs.Undo.{combined};
 ghost use Rattle.dir_changes.specs.History.{cancelled, ids_of, with_later, combined_at, dropped_at};
-ghost use Rattle.dir_changes.specs.Recorded.{past_of, diff_of};
-ghost use Rattle.dir_changes.specs.Spare.{IsEmptyRoom, IsMeasured, HoldsBoth, HoldsPairs};
-ghost use Rattle.dir_changes.specs.Sound.{LastHasRoom};
+ghost use Rattle.dir_changes.specs.Recorded.{past_of, diff_of, lists_of};
+ghost use Rattle.dir_changes.specs.Spare.{IsEmptyRoom, IsMeasured, HoldsBoth, HoldsIds, HoldsPairs, LastHasRoom};
 
 use crate::child::Child;
 use crate::children::Children;
@@ -16,35 +16,81 @@ use hs_types::{InodeId, List};
 use std::collections::VecDeque;
 use std::mem::replace;
 
-/// Takes the later record's lists into the earlier one. Hands back the ids of the deleted entries that the earlier
-/// one had created: they stand in no list any more.
-pub fn take_later(earlier: &mut DirRecord, later: DirRecord, room: MergeRoom) -> List<InodeId>
+/// The two lists of a record, or of several for which they stand.
+#[derive(Debug, Drop)]
+pub struct Lists {
+    pub created: Children,
+    pub deleted: Children,
+}
+
+/// The lists of two records put together, in the memory of `created` and `deleted`, and the deleted entries that the
+/// earlier one had created, which stand in no list any more.
+pub fn merge_lists(
+    earlier: Lists,
+    later: Lists,
+    created: Vec<Child>,
+    deleted: Vec<Child>,
+    mut found: Vec<Child>,
+) -> (Lists, Vec<Child>)
+    requires empty_created { created.items ≡ [] }
+    requires empty_deleted { deleted.items ≡ [] }
+    requires empty_found { found.items ≡ [] }
+    requires created_room { length earlier.created.entries + length later.created.entries ≤ vec_capacity created }
+    requires deleted_room { length earlier.deleted.entries + length later.deleted.entries ≤ vec_capacity deleted }
+    requires found_room { length later.deleted.entries ≤ vec_capacity found }
+    ensures merged { lists_of result.0 ≡ combined (lists_of earlier) (lists_of later) }
+    ensures found { result.1.items ≡ cancelled (lists_of earlier) (lists_of later) }
+    ensures few { vec_len result.1 ≤ length later.deleted.entries }
+    ensures created_left { vec_capacity created ≤ result.0.created.room + (length earlier.created.entries + length later.created.entries) }
+    ensures deleted_left { vec_capacity deleted ≤ result.0.deleted.room + (length earlier.deleted.entries + length later.deleted.entries) }
+{
+    let mut later_deleted = VecDeque::from(later.deleted.into_vec());
+    take_found(&mut later_deleted, earlier.created.items(), &mut found);
+    let deleted = put_together(deleted, earlier.deleted.into_vec(), later_deleted);
+    let mut earlier_created = earlier.created.into_vec();
+    drop_names(&mut earlier_created, found.as_slice());
+    let later_created = VecDeque::from(later.created.into_vec());
+    let created = put_together(created, earlier_created, later_created);
+    (Lists { created, deleted }, found)
+}
+
+/// Takes the later record's lists into the earlier one, and gives memory back but for `keep` entries more. Hands back
+/// the ids of the deleted entries that the earlier one had created: they stand in no list any more.
+pub fn take_later(
+    earlier: &mut DirRecord,
+    later: DirRecord,
+    room: MergeRoom,
+    keep: usize,
+) -> List<InodeId>
     requires empty { IsEmptyRoom room }
     requires holds { HoldsBoth earlier.old later room }
     ensures past { past_of earlier.new ≡ with_later (past_of earlier.old) (past_of later) }
     ensures ids { result ≡ ids_of (cancelled (diff_of earlier.old) (diff_of later)) }
-    ensures created_room { vec_capacity room.created ≤ earlier.new.created.room + (length earlier.old.created.entries + length later.created.entries) }
-    ensures deleted_room { vec_capacity room.deleted ≤ earlier.new.deleted.room + (length earlier.old.deleted.entries + length later.deleted.entries) }
+    ensures created_room { (n : ℕ) → n ≤ keep → n + (length earlier.old.created.entries + length later.created.entries) ≤ vec_capacity room.created → n ≤ earlier.new.created.room }
+    ensures deleted_room { (n : ℕ) → n ≤ keep → n + (length earlier.old.deleted.entries + length later.deleted.entries) ≤ vec_capacity room.deleted → n ≤ earlier.new.deleted.room }
 {
-    let MergeRoom {
-        created,
-        deleted,
-        mut found,
-        ids,
-        most_created: _,
-        most_deleted: _,
-    } = room;
-    let mut later_deleted = VecDeque::from(later.deleted.into_vec());
-    take_found(&mut later_deleted, earlier.created.items(), &mut found);
-    let empty = Children::new(*found.allocator());
-    let earlier_deleted = replace(&mut earlier.deleted, empty).into_vec();
-    earlier.deleted = put_together(deleted, earlier_deleted, later_deleted);
-    let empty = Children::new(*found.allocator());
-    let mut earlier_created = replace(&mut earlier.created, empty).into_vec();
-    drop_names(&mut earlier_created, found.as_slice());
-    let later_created = VecDeque::from(later.created.into_vec());
-    earlier.created = put_together(created, earlier_created, later_created);
-    ids_in(ids, found.as_slice())
+    let alloc = earlier.created.allocator();
+    let lists = Lists {
+        created: replace(&mut earlier.created, Children::new(alloc)),
+        deleted: replace(&mut earlier.deleted, Children::new(alloc)),
+    };
+    let later = Lists {
+        created: later.created,
+        deleted: later.deleted,
+    };
+    let (merged, found) = merge_lists(lists, later, room.created, room.deleted, room.found);
+    earlier.created = shrunk(merged.created, keep);
+    earlier.deleted = shrunk(merged.deleted, keep);
+    ids_in(room.ids, found.as_slice())
+}
+
+/// The list without the memory that it doesn't need.
+fn shrunk(mut list: Children, keep: usize) -> Children
+    ensures same { result.entries ≡ list.entries }
+    ensures room { (n : ℕ) → n ≤ keep → n ≤ list.room → n ≤ result.room }
+{
+    list.shrink(keep);
+    list
 }
 
 /// The list with each of `more` in its place, in the memory of `out`.
@@ -106,15 +152,21 @@ pub fn ids_in(mut ids: Vec<InodeId>, children: &[Child]) -> List<InodeId>
 }
 
 /// Takes record `i` into the one before it, or drops it as the first. Hands back the ids of the deleted entries that
-/// are dropped.
-pub fn combine_at(records: &mut Vec<DirRecord>, i: usize, room: MergeRoom) -> List<InodeId>
+/// are dropped. A list that was put together keeps room for `keep` entries more.
+pub fn combine_at(
+    records: &mut Vec<DirRecord>,
+    i: usize,
+    room: MergeRoom,
+    keep: usize,
+) -> List<InodeId>
     requires there { i < vec_len records.old }
     requires empty { IsEmptyRoom room }
     requires measured { IsMeasured records.old.items room }
-    requires holds { HoldsPairs 0 room }
+    requires ids { HoldsIds keep room }
+    requires pairs { 2 ≤ vec_len records.old → HoldsPairs keep room }
     ensures combined { map past_of records.new.items ≡ combined_at i (map past_of records.old.items) }
     ensures ids { result ≡ ids_of (dropped_at i (map past_of records.old.items)) }
-    ensures last_room { (n : ℕ) → HoldsPairs n room → LastHasRoom n records.old.items → LastHasRoom n records.new.items }
+    ensures last_room { LastHasRoom keep records.old.items → LastHasRoom keep records.new.items }
     ensures len { vec_len records.new + 1 ≡ vec_len records.old }
     ensures capacity { vec_capacity records.new ≡ vec_capacity records.old }
 {
@@ -122,7 +174,7 @@ pub fn combine_at(records: &mut Vec<DirRecord>, i: usize, room: MergeRoom) -> Li
     if i == 0 {
         drop_first(later, room)
     } else {
-        take_later(&mut records[i - 1], later, room)
+        take_later(&mut records[i - 1], later, room, keep)
     }
 }
 

@@ -1,6 +1,7 @@
 //! The child list of a directory and its change records: what it was at each snapshot.
 #![tactic(auto)]
 
+mod boxed;
 mod changes;
 pub mod child;
 pub mod children;
@@ -8,6 +9,7 @@ mod combine;
 pub mod laws;
 mod merge;
 mod name_room;
+mod past;
 mod reading;
 pub mod recorded;
 pub mod rows;

@@ -1,14 +1,16 @@
 //! Change records of a directory.
-ghost use Rattle.std.specs.Prelude.{◌≡◌, ◌+◌, ◌<◌, ◌≤◌, IsTrue, IfOk, length};
+ghost use Rattle.std.specs.Prelude.{◌≡◌, ◌+◌, ◌<◌, ◌≤◌, IsTrue, IfOk, length, map};
 ghost use Rattle.dir_changes.specs.Entries.{in_order, holds};
 ghost use Rattle.dir_changes.specs.Undo.{undo};
 ghost use Rattle.dir_changes.specs.History.{note_added, note_removed};
-ghost use Rattle.dir_changes.specs.Recorded.{past_of, diff_of, noted, marks_shown};
+ghost use Rattle.dir_changes.specs.Counts.{goes_to_deleted};
+ghost use Rattle.dir_changes.specs.Recorded.{past_of, lists_of, noted, marks_shown};
 
 use crate::child::Child;
 use crate::children::Children;
-use crate::merge::{copies, drop_names, put_all};
-use hs_types::{List, Mode, NoMemory, SnapId, Spot};
+use crate::combine::Lists;
+use crate::merge::{drop_names, put_all};
+use hs_types::{InodeId, List, Mode, Name, NoMemory, SnapId, Spot};
 use std::collections::VecDeque;
 
 /// A change record. Its number is a snapshot id: the record tells the directory at that snapshot, and at each one
@@ -54,16 +56,16 @@ impl DirRecord {
     }
 }
 
-/// The child list before the record's changes.
-pub fn undone(mut list: Vec<Child>, record_: &DirRecord) -> Result<Vec<Child>, NoMemory>
+/// The child list before the changes of these lists.
+pub fn undone(mut list: Vec<Child>, lists: Lists) -> Result<Vec<Child>, NoMemory>
     requires { IsTrue (in_order list.items) }
-    ensures { IfOk result (λ before. before.items ≡ undo (diff_of record_.now) list.items) }
+    ensures { IfOk result (λ before. before.items ≡ undo (lists_of lists) list.items) }
 {
-    drop_names(&mut list, record_.created.items());
-    if record_.deleted.is_empty() {
+    drop_names(&mut list, lists.created.items());
+    if lists.deleted.is_empty() {
         return Ok(list);
     }
-    let deleted = copies(*list.allocator(), record_.deleted.items())?;
+    let deleted = lists.deleted.into_vec();
     let room = list.len().checked_add(deleted.len()).ok_or(NoMemory)?;
     let mut before = Vec::with_capacity(*list.allocator(), room)?;
     put_all(&mut before, VecDeque::from(list), VecDeque::from(deleted));
@@ -102,8 +104,24 @@ pub fn note_deleted(record_: &mut DirRecord, child: Child)
 fn is_created(record_: &DirRecord, child: &Child) -> bool
     ensures { result ≡ holds record_.now.created.entries child.now }
 {
-    match record_.created.id_of(&child.name) {
-        Some(id) => child.id == id,
+    has_created(record_, &child.name, child.id)
+}
+
+fn has_created(record_: &DirRecord, name: &Name, id: InodeId) -> bool
+    ensures { result ≡ holds record_.now.created.entries (name.now, id) }
+{
+    match record_.created.id_of(name) {
+        Some(other) => id == other,
+        None => false,
+    }
+}
+
+/// Whether an entry, once removed, goes to the last record's deleted list.
+pub fn keeps(records: &[DirRecord], name: &Name, id: InodeId) -> bool
+    ensures { result ≡ goes_to_deleted name.now id (map past_of records.now) }
+{
+    match records.last() {
+        Some(last) => !has_created(last, name, id),
         None => false,
     }
 }

@@ -1,8 +1,8 @@
 //! Room that is made before a change, so that the change can't want memory.
-ghost use Rattle.std.specs.Prelude.{◌≡◌, ◌+◌, ◌<◌, ◌≤◌, ◌^◌, IfSome, IfOk, OnOk, vec_len, vec_capacity};
+ghost use Rattle.std.specs.Prelude.{◌≡◌, ℕ, ◌+◌, ◌<◌, ◌≤◌, length, IfSome, IfOk, IsOk, OnOk, OnErr, vec_len, vec_capacity};
 ghost use Rattle.std.specs.Option.{ForSome, option_map};
-ghost use Rattle.dir_changes.specs.Sound.{PairsFit, created_len, deleted_len};
-ghost use Rattle.dir_changes.specs.Spare.{one_if, IsFresh, IsMergeRoom, IsEmptyRoom, IsMeasured, HoldsPairs, created_raised, deleted_raised};
+ghost use Rattle.dir_changes.specs.Inside.{HasSpot};
+ghost use Rattle.dir_changes.specs.Spare.{PairsFit, created_len, deleted_len, one_if, IsFresh, IsMergeRoom, IsEmptyRoom, IsMeasured, IsSameMeasure, IsWider, HoldsIds, HoldsPairs, created_raised, deleted_raised};
 
 use crate::child::Child;
 use crate::children::Children;
@@ -38,10 +38,14 @@ pub fn ready_fresh(
     records: &mut Vec<DirRecord>,
     spot: &Spot,
 ) -> Result<(), NoMemory>
-    requires { ForSome fresh.old (IsFresh spot.now (vec_len records.old) (vec_capacity records.old)) }
-    ensures fresh { ForSome fresh.new (IsFresh spot.now (vec_len records.new) (vec_capacity records.new)) }
+    requires fresh { ForSome fresh.old (IsFresh (vec_len records.old) (vec_capacity records.old)) }
+    requires spot { HasSpot spot.now fresh.old }
+    ensures fresh { ForSome fresh.new (IsFresh (vec_len records.new) (vec_capacity records.new)) }
+    ensures spot { HasSpot spot.now fresh.new }
     ensures ok { OnOk result (1 ≤ one_if fresh.new) }
+    ensures err { OnErr result (fresh.new ≡ fresh.old) }
     ensures kept { one_if fresh.old ≤ one_if fresh.new }
+    ensures room { 0 < one_if fresh.old → IsOk result }
     ensures records { records.new.items ≡ records.old.items }
     ensures len { vec_len records.new ≡ vec_len records.old }
 {
@@ -57,12 +61,12 @@ pub fn ready_fresh(
     Ok(())
 }
 
-/// Puts memory for three names aside.
-pub fn fill_names(alloc: Global, names: &mut Vec<NameRoom>) -> Result<(), NoMemory>
-    ensures ok { OnOk result (3 ≤ vec_len names.new) }
+/// Puts memory for so many names aside.
+pub fn fill_names(alloc: Global, names: &mut Vec<NameRoom>, count: usize) -> Result<(), NoMemory>
+    ensures ok { OnOk result (count ≤ vec_len names.new) }
     ensures kept { vec_len names.old ≤ vec_len names.new }
 {
-    while names.len() < 3 {
+    while names.len() < count {
         names.push(NameRoom::new(alloc)?)?;
     }
     Ok(())
@@ -108,50 +112,76 @@ fn measured(alloc: Global, records: &[DirRecord]) -> Result<MergeRoom, NoMemory>
     })
 }
 
-/// Makes the lists as long as two neighbours can be together after three edits.
-fn widen(room: &mut MergeRoom) -> Result<(), NoMemory>
+/// Makes room for ids as long as any deleted list can be after so many edits.
+fn widen_ids(room: &mut MergeRoom, edits: usize) -> Result<(), NoMemory>
     requires { IsEmptyRoom room.old }
+    ensures same { IsSameMeasure room.old room.new }
     ensures empty { IsEmptyRoom room.new }
-    ensures most_created { room.new.most_created ≡ room.old.most_created }
-    ensures most_deleted { room.new.most_deleted ≡ room.old.most_deleted }
-    ensures created { vec_capacity room.old.created ≤ vec_capacity room.new.created }
-    ensures deleted { vec_capacity room.old.deleted ≤ vec_capacity room.new.deleted }
-    ensures found { vec_capacity room.old.found ≤ vec_capacity room.new.found }
-    ensures ids { vec_capacity room.old.ids ≤ vec_capacity room.new.ids }
-    ensures ok { OnOk result (HoldsPairs 3 room.new) }
+    ensures wider { IsWider room.old room.new }
+    ensures ok { OnOk result (HoldsIds edits room.new) }
+    ensures succeeds { HoldsIds edits room.old → IsOk result }
 {
-    let created = room.most_created.checked_add(3).ok_or(NoMemory)?;
-    let deleted = room.most_deleted.checked_add(3).ok_or(NoMemory)?;
-    room.created.reserve(created)?;
-    room.deleted.reserve(deleted)?;
-    room.found.reserve(deleted)?;
+    let _created = room.most_created.checked_add(edits).ok_or(NoMemory)?;
+    let deleted = room.most_deleted.checked_add(edits).ok_or(NoMemory)?;
     room.ids.reserve(deleted)?;
     Ok(())
 }
 
-/// Makes the room that the next `combine` takes, also where three edits stand between.
+/// Makes the lists as long as two neighbours can be together after so many edits.
+fn widen_pairs(room: &mut MergeRoom, edits: usize) -> Result<(), NoMemory>
+    requires { IsEmptyRoom room.old }
+    ensures same { IsSameMeasure room.old room.new }
+    ensures empty { IsEmptyRoom room.new }
+    ensures wider { IsWider room.old room.new }
+    ensures ok { OnOk result (HoldsPairs edits room.new) }
+{
+    let created = room.most_created.checked_add(edits).ok_or(NoMemory)?;
+    let deleted = room.most_deleted.checked_add(edits).ok_or(NoMemory)?;
+    room.created.reserve(created)?;
+    room.deleted.reserve(deleted)?;
+    room.found.reserve(deleted)?;
+    Ok(())
+}
+
+/// Makes all that a `combine` takes after so many edits; without a record there is nothing to put together.
+fn widen(room: &mut MergeRoom, edits: usize, count: usize) -> Result<(), NoMemory>
+    requires { IsEmptyRoom room.old }
+    ensures same { IsSameMeasure room.old room.new }
+    ensures empty { IsEmptyRoom room.new }
+    ensures wider { IsWider room.old room.new }
+    ensures ids { OnOk result (HoldsIds edits room.new) }
+    ensures pairs { OnOk result (0 < count → HoldsPairs edits room.new) }
+{
+    widen_ids(room, edits)?;
+    if count > 0 {
+        return widen_pairs(room, edits);
+    }
+    Ok(())
+}
+
+/// Makes the room that the next `combine` takes, also where so many edits and a new record stand between.
 pub fn ready_merge(
     alloc: Global,
     merge: &mut Option<MergeRoom>,
     records: &[DirRecord],
     edits: usize,
 ) -> Result<(), NoMemory>
-    requires few { edits ≤ 3 }
-    requires merge { ForSome merge.old (IsMergeRoom records.now edits) }
-    ensures merge { ForSome merge.new (IsMergeRoom records.now edits) }
-    ensures ok { OnOk result (1 ≤ one_if merge.new) }
-    ensures wide { OnOk result (ForSome merge.new (IsMergeRoom records.now 3)) }
-    ensures kept { one_if merge.old ≤ one_if merge.new }
+    requires { ForSome merge.old (λ room. IsEmptyRoom room × IsMeasured records.now room) }
+    ensures kept { (fewer n : ℕ) → fewer ≤ edits → n ≤ length records.now + 1 → ForSome merge.old (IsMergeRoom records.now fewer n) → ForSome merge.new (IsMergeRoom records.now fewer n) }
+    ensures ok { OnOk result (ForSome merge.new (IsMergeRoom records.now edits (length records.now + 1))) }
+    ensures some { OnOk result (1 ≤ one_if merge.new) }
+    ensures same { one_if merge.old ≤ one_if merge.new }
+    ensures none { OnErr result (one_if merge.new ≡ one_if merge.old) }
 {
     match merge.take() {
         Some(mut room) => {
-            let widened = widen(&mut room);
+            let widened = widen(&mut room, edits, records.len());
             *merge = Some(room);
             widened
         }
         None => {
             let mut room = measured(alloc, records)?;
-            widen(&mut room)?;
+            widen(&mut room, edits, records.len())?;
             *merge = Some(room);
             Ok(())
         }
@@ -160,7 +190,7 @@ pub fn ready_merge(
 
 /// One created entry more stands in the last record.
 pub fn raise_created(merge: &mut Option<MergeRoom>)
-    requires { ForSome merge.old (λ room. room.most_created + 1 < 2 ^ 64) }
+    requires { ForSome merge.old (HoldsIds 1) }
     ensures { merge.new ≡ option_map created_raised merge.old }
 {
     if let Some(room) = merge {
@@ -170,7 +200,7 @@ pub fn raise_created(merge: &mut Option<MergeRoom>)
 
 /// One deleted entry more stands in the last record.
 pub fn raise_deleted(merge: &mut Option<MergeRoom>)
-    requires { ForSome merge.old (λ room. room.most_deleted + 1 < 2 ^ 64) }
+    requires { ForSome merge.old (HoldsIds 1) }
     ensures { merge.new ≡ option_map deleted_raised merge.old }
 {
     if let Some(room) = merge {

@@ -7,7 +7,7 @@ use Rattle.hs_types.specs.declared.ids.BlockId.{BlockId}
 use Rattle.hs_types.specs.declared.ids.SnapId.{SnapId}
 use Rattle.file_changes.specs.declared.state.FileState.{FileState}
 use Rattle.file_changes.specs.declared.state.FileRecord.{FileRecord}
-use Rattle.file_changes.specs.History.{FileHistory, last_from, last_number, rising, state_from, state_at, saved, number_at, number_before, without_record, blocks_at}
+use Rattle.file_changes.specs.History.{FileHistory, last_from, last_number, rising, state_from, state_at, saved, number_at, number_before, without_record, blocks_at, LastRemoved}
 
 pub both : (a b : Bool) → IsTrue a → IsTrue b → IsTrue (a && b)
 both true b p q = q
@@ -80,6 +80,39 @@ above_last s n (r ∷ rs) c rise above =
 
 pub state_at-saved_there : (file : FileHistory) (k : SnapId) (s : ℕ) → IsTrue (rising 0 file.records) → last_number file < s → state_at s (saved k file) ≡ file.current
 state_at-saved_there file k s rise above = state_at-saved file k s ∙ ap (λ x. if nat_eq s 0 then file.current else x) (above_last s 0 file.records file.current rise above) ∙ cond_same (nat_eq s 0) file.current
+
+pub state_at-past : (file : FileHistory) (s : ℕ) → IsTrue (rising 0 file.records) → last_number file < s → state_at s file ≡ file.current
+state_at-past file s rise above = ap (λ x. if nat_eq s 0 then file.current else x) (above_last s 0 file.records file.current rise above) ∙ cond_same (nat_eq s 0) file.current
+
+pub last-saved : (n : ℕ) (rs : List FileRecord) (r : FileRecord) → last_from n (rs ++ r ∷ []) ≡ r.number.0
+last-saved n [] r = refl
+last-saved n (x ∷ rs) r = last-saved x.number.0 rs r
+
+pub last_removed : (file : FileHistory) (i : ℕ) → LastRemoved i file (without_record i file)
+last_removed file i = (before 0 file.records i, at_end file.records i)
+  where
+    before : (n : ℕ) (rs : List FileRecord) (i : ℕ) → i + 1 < length rs → last_from n (remove rs i) ≡ last_from n rs
+    before n [] i lt = absurd (omega arith)
+    before n (r ∷ []) i lt = absurd (omega arith)
+    before n (r ∷ q ∷ rs) zero lt = refl
+    before n (r ∷ q ∷ rs) (suc i) lt = before r.number.0 (q ∷ rs) i (omega arith)
+
+    behind : (n : ℕ) (r : FileRecord) (rs : List FileRecord) (i : ℕ) → i + 1 ≡ length rs → last_from n (r ∷ remove rs i) ≡ number_at (r ∷ rs) i
+    behind n r [] i is = absurd (omega arith)
+    behind n r (q ∷ []) zero is = refl
+    behind n r (q ∷ p ∷ rs) zero is = absurd (omega arith)
+    behind n r (q ∷ rs) (suc i) is = behind r.number.0 q rs i (omega arith)
+
+    at_end : (rs : List FileRecord) (i : ℕ) → i + 1 ≡ length rs → last_from 0 (remove rs i) ≡ number_before rs i
+    at_end [] i is = absurd (omega arith)
+    at_end (r ∷ []) zero is = refl
+    at_end (r ∷ q ∷ rs) zero is = absurd (omega arith)
+    at_end (r ∷ rs) (suc i) is = behind 0 r rs i (omega arith)
+
+pub length-removed : (rs : List FileRecord) (i : ℕ) → i < length rs → length (remove rs i) + 1 ≡ length rs
+length-removed [] i lt = absurd (omega arith)
+length-removed (r ∷ rs) zero lt = omega arith
+length-removed (r ∷ rs) (suc i) lt = let rest = length-removed rs i (omega arith) in omega (arith, rest)
 
 pub rising-append : (n : ℕ) (rs : List FileRecord) (r : FileRecord) → IsTrue (rising n rs) → last_from n rs < r.number.0 → IsTrue (rising n (rs ++ r ∷ []))
 rising-append n [] r rise above = both _ _ (is_less n r.number.0 above) refl

@@ -1,5 +1,5 @@
 -- The states of a file: the current one, and those that records saved.
-use Rattle.std.specs.Prelude.{ℕ, zero, suc, ◌+◌, Bool, true, false, not, ◌&&◌, ◌||◌, ◌==◌, nat_lt, nat_le, if◌then◌else◌, List, [], ◌∷◌, ◌++◌, filter, remove, IsTrue, Option, Some, None}
+use Rattle.std.specs.Prelude.{◌≡◌, ◌<◌, length, ℕ, zero, suc, ◌+◌, Bool, true, false, not, ◌&&◌, ◌||◌, ◌==◌, nat_lt, nat_le, if◌then◌else◌, List, [], ◌∷◌, ◌++◌, filter, remove, IsTrue, Option, Some, None}
 use Rattle.std.specs.List.{list_any}
 use Rattle.hs_types.specs.declared.ids.BlockId.{BlockId}
 use Rattle.hs_types.specs.declared.ids.SnapId.{SnapId}
@@ -74,3 +74,11 @@ blocks_at (record_ ∷ records) (suc i) = blocks_at records i
 -- the blocks of record i that no other state names
 abbrev pub only_at : ℕ → FileHistory → List BlockId
 only_at i file = filter (λ block. not (names (without_record i file) block)) (blocks_at file.records i)
+
+-- the number of the last record, once record i is removed
+abbrev pub LastRemoved : ℕ → FileHistory → FileHistory → Type 0
+LastRemoved i before after = (i + 1 < length before.records → last_number after ≡ last_number before) × (i + 1 ≡ length before.records → last_number after ≡ number_before before.records i)
+
+-- above the last number an id reads the current state
+abbrev pub CurrentLaw : Type 0
+CurrentLaw = (file : FileHistory) → IsTrue (rising 0 file.records) → (s : ℕ) → last_number file < s → state_at s file ≡ file.current

@@ -2,6 +2,8 @@
 #![tactic(auto)]
 
 mod blocks;
+pub mod laws;
+mod past;
 pub mod rows;
 mod search;
 pub mod state;

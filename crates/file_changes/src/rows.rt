@@ -1,31 +1,23 @@
 //! A file's current state and its records.
-ghost use Rattle.std.specs.Prelude.{◌≡◌, ℕ, ◌<◌, ◌≤◌, ◌↔◌, [], length, slice_get, IsTrue, IsOk, OnOk, OnErr, IfOk};
-ghost use Rattle.std.specs.Prelude.{vec_len, vec_capacity, IsSome};
-ghost use Rattle.std.specs.Option.{option_map, option_copied, ForSome};
-ghost use Rattle.file_changes.specs.Inside.{IsSpareOf};
+ghost use Rattle.std.specs.Prelude.{◌≡◌, ℕ, ◌+◌, ◌<◌, ◌≤◌, [], length, slice_get, IsTrue, IsOk, OnOk, OnErr};
+ghost use Rattle.std.specs.Option.{option_map, option_copied};
 ghost use Rattle.file_changes.specs.View.{shown};
-ghost use Rattle.file_changes.specs.History.{state_at, saved, last_number, rising, number_at, number_before, without_record, only_at};
+ghost use Rattle.file_changes.specs.History.{state_at, saved, last_number, rising, number_at, number_before, without_record, only_at, LastRemoved};
 
-use crate::blocks::keep_unnamed;
+use crate::past::{FilePast, drop_record, let_go, push_saved, ready_past, records_of};
 use crate::search::state_from;
 use crate::state::{FileRecord, FileState, FileView};
-use hs_types::{BlockId, Duplicate, List, Mode, NoMemory, SnapId, Spot};
+use hs_types::{BlockId, List, Mode, NoMemory, SnapId, Spot};
 use std::alloc::Global;
 use std::marker::Model;
 
-/// A file's inode through time: its current state, and the states that records saved, by rising numbers.
+/// A file's inode through time: its current state, and the states that records saved, by rising numbers. Records, and
+/// what was made for the next one, stand behind one box; there is none without them.
 #[derive(Debug, Drop)]
 pub struct FileRows {
+    alloc: Global,
     current: FileState,
-    records: Vec<FileRecord>,
-    spare: Option<SpareCopy>,
-}
-
-/// A copy of what is long in the current state, made before it is saved.
-#[derive(Debug, Drop)]
-struct SpareCopy {
-    spot: Spot,
-    blocks: List<BlockId>,
+    past: Option<Box<FilePast>>,
 }
 
 impl Model for FileRows {
@@ -43,9 +35,11 @@ impl Model for FileRows {
 impl FileRows {
     /// A new empty file without records. It takes no memory.
     pub fn new(alloc: Global, spot: Spot, mode: Mode, stamp: u64) -> FileRows
-        ensures { result.history ≡ record { current = record { spot = spot; mode = mode; stamp = stamp; size = 0; blocks = [] }; records = [] } }
+        ensures history { result.history ≡ record { current = record { spot = spot; mode = mode; stamp = stamp; size = 0; blocks = [] }; records = [] } }
+        ensures saves { result.saves ≡ 0 }
     {
         FileRows {
+            alloc,
             current: FileState {
                 spot,
                 mode,
@@ -53,8 +47,7 @@ impl FileRows {
                 size: 0,
                 blocks: List::new(alloc),
             },
-            records: Vec::new(alloc),
-            spare: None,
+            past: None,
         }
     }
 
@@ -71,7 +64,7 @@ impl FileRows {
         if s.0 == 0 {
             &self.current
         } else {
-            state_from(self.records.as_slice(), &self.current, s.0)
+            state_from(records_of(&self.past), &self.current, s.0)
         }
     }
 
@@ -79,7 +72,7 @@ impl FileRows {
     pub fn last_number(&self) -> SnapId
         ensures { result.0 ≡ last_number self.now.history }
     {
-        match self.records.last() {
+        match records_of(&self.past).last() {
             Some(saved) => saved.number,
             None => SnapId(0),
         }
@@ -89,58 +82,74 @@ impl FileRows {
     pub fn save(&mut self, number: SnapId) -> Result<(), NoMemory>
         requires { last_number self.old.history < number.0 }
         ensures ok { OnOk result (self.new.history ≡ saved number self.old.history) }
+        ensures last { OnOk result (last_number self.new.history ≡ number.0) }
+        ensures records { OnOk result (length self.new.history.records ≡ length self.old.history.records + 1) }
+        ensures rising { IsTrue (rising 0 self.new.history.records) }
         ensures saved_there { OnOk result ((s : ℕ) → last_number self.old.history < s → s ≤ number.0 → state_at s self.new.history ≡ self.old.history.current) }
         ensures reads_as_before { OnOk result ((s : ℕ) → state_at s self.new.history ≡ state_at s self.old.history) }
         ensures err { OnErr result (self.new.history ≡ self.old.history) }
         ensures room { 0 < self.old.saves → IsOk result }
     {
-        let spare = ready_copy(self.spare.take(), &mut self.records, &self.current)?;
-        let SpareCopy { spot, blocks } = spare;
-        self.records.push_reserved(FileRecord {
-            number,
-            state: FileState {
-                spot,
-                mode: self.current.mode,
-                stamp: self.current.stamp,
-                size: self.current.size,
-                blocks,
-            },
-        });
+        self.prepare()?;
+        self.push_saved(number);
         Ok(())
     }
 
-    /// Makes room, so that the next `save` can't want memory, unless a `set`, `set_spot` or `set_body` stands between.
+    fn push_saved(&mut self, number: SnapId)
+        requires above { last_number self.old.history < number.0 }
+        requires room { 0 < self.old.saves }
+        ensures saved { self.new.history ≡ saved number self.old.history }
+        ensures rising { IsTrue (rising 0 self.old.history.records) }
+    {
+        push_saved(&mut self.past, number, &self.current);
+    }
+
+    /// Makes room, so that the next `save` can't want memory, unless a `set`, `set_spot` or `set_body` stands between. It
+    /// copies no id of a block.
     pub fn prepare(&mut self) -> Result<(), NoMemory>
         ensures same { self.new.history ≡ self.old.history }
         ensures ok { OnOk result (1 ≤ self.new.saves) }
+        ensures rising { IsTrue (rising 0 self.new.history.records) }
+        ensures room { 0 < self.old.saves → IsOk result }
     {
-        let spare = ready_copy(self.spare.take(), &mut self.records, &self.current)?;
-        self.spare = Some(spare);
-        Ok(())
+        ready_past(self.alloc, &mut self.past, &self.current)
+    }
+
+    /// Lets the room go that was made and not used.
+    pub fn release_room(&mut self)
+        ensures same { self.new.history ≡ self.old.history }
+    {
+        let_go(&mut self.past);
     }
 
     /// Replaces the current state, and takes no memory.
     pub fn set(&mut self, state: FileState)
         ensures current { self.new.history ≡ record self.old.history { current = state } }
         ensures reads_as_before { (s : ℕ) → 0 < s → s ≤ last_number self.old.history → state_at s self.new.history ≡ state_at s self.old.history }
+        ensures last { last_number self.new.history ≡ last_number self.old.history }
+        ensures rising { IsTrue (rising 0 self.new.history.records) }
     {
+        let_go(&mut self.past);
         self.current = state;
-        self.spare = None;
     }
 
     /// Replaces where the file stands now, and takes no memory.
     pub fn set_spot(&mut self, spot: Spot)
         ensures current { self.new.history ≡ record self.old.history { current = record self.old.history.current { spot = spot } } }
         ensures reads_as_before { (s : ℕ) → 0 < s → s ≤ last_number self.old.history → state_at s self.new.history ≡ state_at s self.old.history }
+        ensures last { last_number self.new.history ≡ last_number self.old.history }
+        ensures rising { IsTrue (rising 0 self.new.history.records) }
     {
+        let_go(&mut self.past);
         self.current.spot = spot;
-        self.spare = None;
     }
 
     /// Replaces the mode and the stamp of now, and takes no memory.
     pub fn set_mode(&mut self, mode: Mode, stamp: u64)
         ensures current { self.new.history ≡ record self.old.history { current = record self.old.history.current { mode = mode; stamp = stamp } } }
         ensures reads_as_before { (s : ℕ) → 0 < s → s ≤ last_number self.old.history → state_at s self.new.history ≡ state_at s self.old.history }
+        ensures last { last_number self.new.history ≡ last_number self.old.history }
+        ensures rising { IsTrue (rising 0 self.new.history.records) }
         ensures room { self.new.saves ≡ self.old.saves }
     {
         self.current.mode = mode;
@@ -151,11 +160,21 @@ impl FileRows {
     pub fn set_body(&mut self, size: u64, blocks: List<BlockId>, stamp: u64)
         ensures current { self.new.history ≡ record self.old.history { current = record self.old.history.current { size = size; blocks = blocks; stamp = stamp } } }
         ensures reads_as_before { (s : ℕ) → 0 < s → s ≤ last_number self.old.history → state_at s self.new.history ≡ state_at s self.old.history }
+        ensures last { last_number self.new.history ≡ last_number self.old.history }
+        ensures rising { IsTrue (rising 0 self.new.history.records) }
     {
         self.current.size = size;
         self.current.blocks = blocks;
         self.current.stamp = stamp;
-        self.spare = None;
+    }
+
+    /// Takes the list of blocks out of the state of now, so that no id need be copied, and leaves an empty list. It is
+    /// put back, changed or not, by `set_body`.
+    pub fn take_blocks(&mut self) -> List<BlockId>
+        ensures blocks { result ≡ self.old.history.current.blocks }
+        ensures current { self.new.history ≡ record self.old.history { current = record self.old.history.current { blocks = [] } } }
+    {
+        List::of(self.current.blocks.take())
     }
 
     /// Removes record `i`, and hands out the blocks that only it named, in its order. It takes no memory.
@@ -163,20 +182,14 @@ impl FileRows {
         requires { i < length self.old.history.records }
         ensures removed { self.new.history ≡ without_record i self.old.history }
         ensures blocks { result ≡ only_at i self.old.history }
+        ensures last { LastRemoved i self.old.history self.new.history }
+        ensures records { length self.new.history.records + 1 ≡ length self.old.history.records }
+        ensures rising { IsTrue (rising 0 self.new.history.records) }
         ensures reads_below { (s : ℕ) → s ≤ number_before self.old.history.records i → state_at s self.new.history ≡ state_at s self.old.history }
         ensures reads_above { (s : ℕ) → number_at self.old.history.records i < s → state_at s self.new.history ≡ state_at s self.old.history }
         ensures room { self.new.saves ≡ self.old.saves }
     {
-        let FileRecord { number: _, state } = self.records.remove(i);
-        let FileState {
-            spot: _,
-            mode: _,
-            stamp: _,
-            size: _,
-            blocks,
-        } = state;
-        let blocks = keep_unnamed(blocks.into_vec(), self.records.as_slice(), &self.current, i);
-        List::of(blocks)
+        drop_record(&mut self.past, i, &self.current)
     }
 
     pub fn current(&self) -> &FileState
@@ -189,7 +202,7 @@ impl FileRows {
     pub fn saved(&self, i: usize) -> Option<&FileState>
         ensures { option_copied result ≡ option_map (λ r. r.state) (slice_get self.now.history.records i) }
     {
-        match self.records.get(i) {
+        match records_of(&self.past).get(i) {
             Some(record) => Some(&record.state),
             None => None,
         }
@@ -200,41 +213,16 @@ impl FileRows {
         ensures count { result ≡ length self.now.history.records }
         ensures rising { IsTrue (rising 0 self.now.history.records) }
     {
-        self.records.len()
+        records_of(&self.past).len()
     }
 
     /// The number of record `i`. `None` exactly where there is no record `i`.
     pub fn number(&self, i: usize) -> Option<SnapId>
         ensures { result ≡ option_map (λ r. r.number) (slice_get self.now.history.records i) }
     {
-        match self.records.get(i) {
+        match records_of(&self.past).get(i) {
             Some(record) => Some(record.number),
             None => None,
         }
     }
 }
-
-/// The copy that is at hand, or a new one and a place for one record more.
-fn ready_copy(
-    spare: Option<SpareCopy>,
-    records: &mut Vec<FileRecord>,
-    current: &FileState,
-) -> Result<SpareCopy, NoMemory>
-    requires { ForSome spare (IsSpareOf current.now (vec_len records.old) (vec_capacity records.old)) }
-    ensures copy { IfOk result (IsSpareOf current.now (vec_len records.new) (vec_capacity records.new)) }
-    ensures records { records.new.items ≡ records.old.items }
-    ensures room { IsSome spare → IsOk result }
-{
-    if let Some(spare) = spare {
-        return Ok(spare);
-    }
-    records.reserve(1)?;
-    let blocks = Vec::from_slice(*records.allocator(), current.blocks.items())?;
-    Ok(SpareCopy {
-        spot: current.spot.copy()?,
-        blocks: List::of(blocks),
-    })
-}
-
-#[cfg(test)]
-mod tests;

@@ -1,7 +1,7 @@
 use Rattle.std.proofs.Common.{◌+◌, length, map, sym, ap, subst, ◌∙◌, arith}
 use Rattle.dir_changes.specs.History.{change_last, note_added as with_added}
 use Rattle.dir_changes.specs.Recorded.{past_of, noted}
-use Rattle.dir_changes.specs.Sound.{LastHasRoom, PairsFit, created_len, deleted_len}
+use Rattle.dir_changes.specs.Spare.{LastHasRoom, PairsFit, created_len, deleted_len}
 use Rattle.dir_changes.proofs.LastLaws.{pasts_changed, last_room, last_has_room, pairs_fit_more, pairs_fit_same}
 use Rattle.dir_changes.proofs.changes.note_added.Goals as goal
 

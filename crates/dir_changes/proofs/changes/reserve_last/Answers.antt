@@ -1,6 +1,6 @@
 use Rattle.std.proofs.Common.{Result, Ok, Err, length, sym, ap, subst, arith}
 use Rattle.std.specs.Prelude.{OnOk}
-use Rattle.dir_changes.specs.Sound.{LastHasRoom, PairsFit, created_len, deleted_len}
+use Rattle.dir_changes.specs.Spare.{LastHasRoom, PairsFit, created_len, deleted_len}
 use Rattle.dir_changes.proofs.LastLaws.{last_room, last_has_room, pairs_fit_same}
 use Rattle.dir_changes.proofs.changes.reserve_last.Goals as goal
 
@@ -10,7 +10,7 @@ on_ok (Err e) P Q f p = tt
 
 pub returns-in-Some-clause-ok : goal.returns-in-Some-clause-ok
 returns-in-Some-clause-ok c = on_ok c.reserve_lists-reserved.result _ _
-    (λ room. subst (LastHasRoom 3) (sym c.push_reserved.ensures.items) (last_has_room 3 c.pop.new.self.items c.reserve_lists-reserved.new.last room.0 room.1)) c.reserve_lists-reserved.ensures.ok
+    (λ room. subst (LastHasRoom c.args.more) (sym c.push_reserved.ensures.items) (last_has_room c.args.more c.pop.new.self.items c.reserve_lists-reserved.new.last room.0 room.1)) c.reserve_lists-reserved.ensures.ok
 
 pub returns-in-Some-clause-last_room : goal.returns-in-Some-clause-last_room
 returns-in-Some-clause-last_room c n had =

@@ -1,42 +1,8 @@
-use Rattle.std.proofs.Common.{◌≡◌, ◌++◌, sym, ap, subst, ◌∙◌}
-use Rattle.std.specs.Prelude.{IsTrue}
-use Rattle.dir_changes.specs.Entries.{in_order, among, without, with_all}
-use Rattle.dir_changes.specs.Recorded.{past_of}
-use Rattle.dir_changes.specs.History.{Past}
-use Rattle.dir_changes.proofs.UndoLaw.{in_order-without}
-use Rattle.dir_changes.proofs.CombineLaws.{in_order-among, without-among}
+use Rattle.std.proofs.Common.{length, ap, arith}
 use Rattle.dir_changes.proofs.combine.take_later.Goals as goal
 
-pub put_together-requires-clause-more_in_order : goal.put_together-requires-clause-more_in_order
-put_together-requires-clause-more_in_order c =
-    let gone = c.from-later_deleted.ensures.0 ∙ c.into_vec.ensures.entries in
-    subst (λ l. IsTrue (in_order l)) (sym (c.take_found.ensures.rest ∙ ap (without c.items.result.now) gone)) (in_order-without c.items.result.now c.args.later.deleted.entries c.into_vec.ensures.in_order)
+pub returns-clause-created_room : goal.returns-clause-created_room
+returns-clause-created_room c n le fits = c.shrunk.ensures.room n le (omega (arith, fits, c.merge_lists-merged.ensures.created_left, ap (λ v. length v.entries) c.replace.ensures.value))
 
--- what was found are the later deleted entries that the earlier record had created
-pub drop_names-requires : goal.drop_names-requires
-drop_names-requires c =
-    let gone = c.from-later_deleted.ensures.0 ∙ c.into_vec.ensures.entries in
-    let found = c.as_slice.ensures.value ∙ c.take_found.ensures.found ∙ ap (λ l. l ++ among c.items.result.now c.from-later_deleted.result.items) c.requires.empty.found ∙ ap (among c.items.result.now) gone in
-    subst (λ l. IsTrue (in_order l)) (sym found) (in_order-among c.items.result.now c.args.later.deleted.entries c.into_vec.ensures.in_order)
-
-pub put_together-requires-2-clause-list_in_order : goal.put_together-requires-2-clause-list_in_order
-put_together-requires-2-clause-list_in_order c =
-    let sorted = subst (λ l. IsTrue (in_order l)) (sym c.into_vec-earlier_created.ensures.entries) c.into_vec-earlier_created.ensures.in_order in
-    subst (λ l. IsTrue (in_order l)) (sym c.drop_names.ensures.kept) (in_order-without c.as_slice.result.now c.into_vec-earlier_created.result.items sorted)
-
-pub returns-clause-past : goal.returns-clause-past
-returns-clause-past c =
-    let made = c.args.earlier.now.created.entries in
-    let gone = c.args.later.deleted.entries in
-    let gone_is = c.from-later_deleted.ensures.0 ∙ c.into_vec.ensures.entries in
-    let found : c.as_slice.result.now ≡ among made gone =
-    c.as_slice.ensures.value ∙ c.take_found.ensures.found ∙ ap (λ l. l ++ among c.items.result.now c.from-later_deleted.result.items) c.requires.empty.found ∙ (λ i. among (c.items.ensures.items i) (gone_is i)) in
-    let made_is : c.into_vec-earlier_created.result.items ≡ made = c.into_vec-earlier_created.ensures.entries ∙ ap (λ v. v.entries) c.replace-2.ensures.value in
-    let left : c.drop_names.new.list.items ≡ without gone made = c.drop_names.ensures.kept ∙ (λ i. without (found i) (made_is i)) ∙ without-among made gone in
-    let later : c.from-later_created.result.items ≡ c.args.later.created.entries = c.from-later_created.ensures.0 ∙ c.into_vec-2.ensures.entries in
-    let created : c.put_together-2.result.entries ≡ with_all c.args.later.created.entries (without gone made) = c.put_together-2.ensures.put ∙ (λ i. with_all (later i) (left i)) in
-    let rest : c.take_found.new.list.items ≡ without made gone = c.take_found.ensures.rest ∙ (λ i. without (c.items.ensures.items i) (gone_is i)) in
-    let before : c.into_vec-earlier_deleted.result.items ≡ c.args.earlier.now.deleted.entries = c.into_vec-earlier_deleted.ensures.entries ∙ ap (λ v. v.entries) c.replace.ensures.value in
-    let deleted : c.put_together.result.entries ≡ with_all (without made gone) c.args.earlier.now.deleted.entries = c.put_together.ensures.put ∙ (λ i. with_all (rest i) (before i)) in
-    let earlier : Past = past_of c.args.earlier.now in
-    λ i. record earlier { diff = record { created = created i; deleted = deleted i } }
+pub returns-clause-deleted_room : goal.returns-clause-deleted_room
+returns-clause-deleted_room c n le fits = c.shrunk-2.ensures.room n le (omega (arith, fits, c.merge_lists-merged.ensures.deleted_left, ap (λ v. length v.entries) c.replace-2.ensures.value))

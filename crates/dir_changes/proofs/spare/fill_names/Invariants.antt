@@ -5,4 +5,4 @@ abbrev pub invariant-loop-alloc : goal.invariant-loop-alloc
 invariant-loop-alloc l = vec_len l.initial.names ≤ vec_len l.names
 
 abbrev pub decreases-loop-alloc : goal.decreases-loop-alloc
-decreases-loop-alloc l = 3 - vec_len l.names
+decreases-loop-alloc l = l.count - vec_len l.names

@@ -1,5 +1,5 @@
 use Rattle.std.proofs.Common.{◌≡◌, ◌<◌, ◌≤◌, ◌+◌, ◌-◌, ◌∷◌, length, drop, sym, ap, subst, ◌∙◌, arith}
-use Rattle.dir_changes.specs.Sound.{PairsFit, created_len, deleted_len}
+use Rattle.dir_changes.specs.Spare.{PairsFit, created_len, deleted_len}
 use Rattle.dir_changes.proofs.SearchLaws.{drop_at}
 use Rattle.dir_changes.proofs.LastLaws.{next_len, pairs_fit_cons}
 use Rattle.dir_changes.proofs.spare.most_together.Goals as goal

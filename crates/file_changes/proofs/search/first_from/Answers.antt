@@ -1,6 +1,4 @@
-use Rattle.std.proofs.Common.{◌≡◌, ◌<◌, ◌+◌, ◌-◌, ◌/◌, length, sym, ap, ◌∙◌, arith}
-use Rattle.std.specs.Prelude.{slice_index_or}
-use Rattle.file_changes.specs.History.{number_at}
+use Rattle.std.proofs.Common.{◌<◌, ◌+◌, ◌-◌, ◌/◌, length, arith}
 use Rattle.file_changes.proofs.Reading.{numbers_rise, number_at-get_or}
 use Rattle.file_changes.proofs.search.first_from.Goals as goal
 

@@ -1,17 +1,10 @@
-use Rattle.std.proofs.Common.{length, ◌-◌, map, sym, ap, ◌∙◌}
-use Rattle.std.specs.Prelude.{slice_get}
-use Rattle.dir_changes.specs.History.{last_number}
-use Rattle.dir_changes.proofs.SearchLaws.{last_from-last, last_from-none, slice_get-within}
+use Rattle.std.proofs.Common.{length, ◌-◌, sym, ap, ◌∙◌}
+use Rattle.dir_changes.specs.History.{last_from, last_number}
+use Rattle.dir_changes.proofs.SearchLaws.{last_from-last, slice_get-within}
 use Rattle.dir_changes.proofs.rows.DirRows.last_number.Goals as goal
 
 pub returns-in-Some : goal.returns-in-Some
 returns-in-Some c =
-    let rs = c.self.inside.records.items in
-    let last = sym (c.in-Some.ensures.value ∙ ap (λ l. slice_get l (length l - 1)) c.deref.ensures.value) in
-    sym (last_from-last 0 rs (length rs - 1) c.in-Some.saved.now (slice_get-within rs c.in-Some.saved.now last) last) ∙ ap (λ v. last_number v.history) c.self.view_is
-
-pub returns-in-None : goal.returns-in-None
-returns-in-None c =
-    let rs = c.self.inside.records.items in
-    let last = sym (c.in-None.ensures.value ∙ ap (λ l. slice_get l (length l - 1)) c.deref.ensures.value) in
-    sym (last_from-none 0 rs last) ∙ ap (λ v. last_number v.history) c.self.view_is
+    let rs = c.records_of.result.now in
+    let last = sym c.in-Some.ensures.value in
+    sym (last_from-last 0 rs (length rs - 1) c.in-Some.saved.now (slice_get-within rs c.in-Some.saved.now last) last) ∙ ap (last_from 0) c.records_of.ensures ∙ ap (λ v. last_number v.history) c.self.view_is

@@ -7,4 +7,4 @@ pub returns-clause-marks_as_before : goal.returns-clause-marks_as_before
 returns-clause-marks_as_before c =
     let dir : DirHistory = dir_history c.self.inside in
     let marks : Marks = record { spot = c.args.spot; mode = c.self.inside.mode; stamp = c.self.inside.stamp } in
-    rw (← c.self.view_is) (λ s above le. marks_at-current dir marks s above le)
+    rw (c.forget_fresh.ensures.records, ← c.self.view_is) (λ s above le. marks_at-current dir marks s above le)
