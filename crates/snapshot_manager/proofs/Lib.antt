@@ -1,6 +1,7 @@
 pub mod Changes
 pub mod Directories
 pub mod Entries
+pub mod Found
 pub mod Histories
 pub mod Indexed
 pub mod Lists

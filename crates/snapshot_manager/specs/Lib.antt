@@ -1,4 +1,5 @@
 pub mod Inside
+pub mod LookUps
 pub mod Members
 pub mod Owners
 pub mod Places

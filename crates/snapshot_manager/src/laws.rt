@@ -1,4 +1,5 @@
-//! All live snapshots as one list in order of making: what each call makes of it, and what is found there.
+//! What each call leaves of what is found, by directory and over all live snapshots as one list in order of making.
+ghost use Rattle.snapshot_manager.specs.LookUps.{NamedAfterAdd, NamedAfterRemove, NamedAfterRename, LastAfterAdd, LastAfterRename};
 ghost use Rattle.snapshot_manager.specs.Members.{MembersAtStart, MembersAllowed, MembersDisallowed, MembersAdded, MembersRemoved, MembersRenamed, MembersFound, MembersLive};
 
 /// At the start there is none.
@@ -39,4 +40,29 @@ pub fn members_found()
 /// The live ids of `live_between` are those of the members.
 pub fn members_live()
     ensures { MembersLive }
+{}
+
+/// A new snapshot is found by its name.
+pub fn named_after_add()
+    ensures { NamedAfterAdd }
+{}
+
+/// A removed one is found no more.
+pub fn named_after_remove()
+    ensures { NamedAfterRemove }
+{}
+
+/// A renamed one is found by its new name alone.
+pub fn named_after_rename()
+    ensures { NamedAfterRename }
+{}
+
+/// A new snapshot is its directory's last.
+pub fn last_after_add()
+    ensures { LastAfterAdd }
+{}
+
+/// Another name leaves the last one.
+pub fn last_after_rename()
+    ensures { LastAfterRename }
 {}

@@ -1,0 +1,5 @@
+use Rattle.inode_table.proofs.Counting.{remove-named}
+use Rattle.inode_table.proofs.laws.remove_named.Goals as goal
+
+pub returns : goal.returns
+returns c = remove-named

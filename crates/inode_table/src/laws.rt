@@ -1,0 +1,234 @@
+//! Laws of rows and of the plain states that they stand for. Each is the contract of a function that does nothing.
+ghost use Rattle.inode_table.specs.Steps.{AlikeLaw, BelowLaw, TouchLaw, CutLaw, GraftLaw};
+ghost use Rattle.inode_table.specs.Walk.{OneTreeLaw, WalkLaw, MoveLaw, StampLaw};
+ghost use Rattle.inode_table.specs.Listed.{ListedLaw};
+ghost use Rattle.inode_table.specs.Calls.{RenamedLaw};
+ghost use Rattle.inode_table.specs.Climb.{UpLaw};
+ghost use Rattle.inode_table.specs.Marks.{CoverLaw, ArriveLaw, FewerLaw, SnapLaw};
+ghost use Rattle.inode_table.specs.RowHistory.{ReadingKeptLaw, FrozenKeptLaw, FrozenStepLaw};
+ghost use Rattle.inode_table.specs.Stands.{RenameLaw};
+ghost use Rattle.inode_table.specs.Deeds.{TouchStandsLaw, DeleteStandsLaw, MakeStandsLaw};
+ghost use Rattle.inode_table.specs.Snaps.{SnapStandsLaw, DropStandsLaw};
+ghost use Rattle.inode_table.specs.Names.{ReleaseLaw, ReadNamedLaw, PutNamedLaw, AddNamedLaw, RemoveNamedLaw, MergeNamedLaw};
+ghost use Rattle.inode_table.specs.Start.{StartStandsLaw};
+ghost use Rattle.inode_table.specs.Records.{LoseLaw, StartLaw, MergeLaw};
+ghost use Rattle.inode_table.specs.Edited.{RemoveRowLaw};
+ghost use Rattle.inode_table.specs.Once.{OnceRemoveLaw, OnceAddLaw};
+ghost use Rattle.inode_table.specs.Acyclic.{FewerEndLaw, AddEndLaw};
+ghost use Rattle.inode_table.specs.FromValid.{FromValidLaw, TopLaw};
+ghost use Rattle.inode_table.specs.FrozenBytes.{FrozenBytesLaw};
+
+/// RowHistory that show what they showed read as before.
+pub fn alike()
+    ensures { AlikeLaw }
+{}
+
+/// From a node on, what is read is what stands below it.
+pub fn below()
+    ensures { BelowLaw }
+{}
+
+/// One node is another now, with the same id.
+pub fn touch()
+    ensures { TouchLaw }
+{}
+
+/// A child goes with all below it.
+pub fn cut()
+    ensures { CutLaw }
+{}
+
+/// Other nodes are set under a free name.
+pub fn graft()
+    ensures { GraftLaw }
+{}
+
+/// At most one tree is read from rows.
+pub fn one_tree()
+    ensures { OneTreeLaw }
+{}
+
+/// A walk through lists is the walk through the tree.
+pub fn walk()
+    ensures { WalkLaw }
+{}
+
+/// A list in order is the listing of its directory.
+pub fn listed()
+    ensures { ListedLaw }
+{}
+
+/// A node goes to a free name: an entry out, an entry in, and its new spot.
+pub fn moved()
+    ensures { MoveLaw }
+{}
+
+/// A node gets another stamp.
+pub fn stamped()
+    ensures { StampLaw }
+{}
+
+/// A rename that isn't refused, with the stamps of both directories.
+pub fn renamed()
+    ensures { RenamedLaw }
+{}
+
+/// The spots lead from each inode up to the top, by its path.
+pub fn up()
+    ensures { UpLaw }
+{}
+
+/// The cover is at least every live id whose copied tree has the inode.
+pub fn cover()
+    ensures { CoverLaw }
+{}
+
+/// Marks stay true as a row comes, or comes under another directory.
+pub fn arrive()
+    ensures { ArriveLaw }
+{}
+
+/// And as nodes or snapshots go.
+pub fn fewer()
+    ensures { FewerLaw }
+{}
+
+/// And as a snapshot is made.
+pub fn snap()
+    ensures { SnapLaw }
+{}
+
+/// A change at the need keeps what is read at each live id up to the cover.
+pub fn reading_kept()
+    ensures { ReadingKeptLaw }
+{}
+
+/// Where each row reads alike at the snapshots that have it, copied trees are read as before.
+pub fn frozen_kept()
+    ensures { FrozenKeptLaw }
+{}
+
+/// So a change of one row keeps them.
+pub fn frozen_step()
+    ensures { FrozenStepLaw }
+{}
+
+/// A rename leads from a table that stands for a state to one that stands for the state after it.
+pub fn rename_stands()
+    ensures { RenameLaw }
+{}
+
+/// So does a change of one node's mode, stamp or bytes.
+pub fn touch_stands()
+    ensures { TouchStandsLaw }
+{}
+
+/// So does a deletion.
+pub fn delete_stands()
+    ensures { DeleteStandsLaw }
+{}
+
+/// So does a new node.
+pub fn make_stands()
+    ensures { MakeStandsLaw }
+{}
+
+/// A new snapshot changes no row.
+pub fn snap_stands()
+    ensures { SnapStandsLaw }
+{}
+
+/// Fewer snapshots, where rows read alike now and at those that are left.
+pub fn drop_stands()
+    ensures { DropStandsLaw }
+{}
+
+/// A row that no list names isn't read.
+pub fn release()
+    ensures { ReleaseLaw }
+{}
+
+/// The root alone stands for the first state.
+pub fn start_stands()
+    ensures { StartStandsLaw }
+{}
+
+/// What is read at a snapshot is named now.
+pub fn read_named()
+    ensures { ReadNamedLaw }
+{}
+
+/// How often an id is named, as one row's lists change.
+pub fn put_named()
+    ensures { PutNamedLaw }
+{}
+
+/// As a directory gets an entry.
+pub fn add_named()
+    ensures { AddNamedLaw }
+{}
+
+/// As it loses one.
+pub fn remove_named()
+    ensures { RemoveNamedLaw }
+{}
+
+/// As a record of it is merged away.
+pub fn merge_named()
+    ensures { MergeNamedLaw }
+{}
+
+/// As one snapshot goes, a row loses no interval, or one.
+pub fn lose()
+    ensures { LoseLaw }
+{}
+
+/// A record at the need has a live id in its interval.
+pub fn start_record()
+    ensures { StartLaw }
+{}
+
+/// A record without a live id in its interval may be merged away.
+pub fn merge()
+    ensures { MergeLaw }
+{}
+
+/// What the removal of an entry leaves of a directory's history.
+pub fn remove_entry()
+    ensures { RemoveRowLaw }
+{}
+
+/// An entry less: its id is named by no current list.
+pub fn once_removed()
+    ensures { OnceRemoveLaw }
+{}
+
+/// An entry more: its id is named by one.
+pub fn once_added()
+    ensures { OnceAddLaw }
+{}
+
+/// With fewer entries the way up still ends.
+pub fn fewer_end()
+    ensures { FewerEndLaw }
+{}
+
+/// And with one entry more, in a directory of the live tree.
+pub fn added_end()
+    ensures { AddEndLaw }
+{}
+
+/// A valid state's trees are nodes in the sense of these laws.
+pub fn from_valid()
+    ensures { FromValidLaw }
+{}
+
+/// And its root is their top.
+pub fn top()
+    ensures { TopLaw }
+{}
+
+/// A file whose blocks keep their first bytes has the same bytes.
+pub fn frozen_bytes()
+    ensures { FrozenBytesLaw }
+{}
