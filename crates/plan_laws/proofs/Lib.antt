@@ -1,0 +1,9 @@
+pub mod Paths
+pub mod Outs
+pub mod Cuts
+pub mod Alike
+pub mod Puts
+pub mod Places
+pub mod Lists
+pub mod Child
+pub mod Moves
