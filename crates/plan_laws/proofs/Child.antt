@@ -13,9 +13,9 @@ use Rattle.hs_plain.specs.Tree.{Tree, path_cmp, node_at, is_dir, is_dir_body, pa
 use Rattle.hs_plain.proofs.ValidTrees.{first, second, both}
 use Rattle.hs_plain.proofs.ValidShapes.{none_some, same_some, true_false, by_last, parent_of-last, not_last}
 use Rattle.hs_plain.proofs.ValidPlaces.{head_at, in_tail, by_place, one_place}
-use Rattle.plan_laws.specs.Sight.{Placing, Back, New, target, targets, rest_down, is_in, Same, Child, Differ, HasDirs}
-use Rattle.hs_plain.specs.Report.{last_of, same_place, has_id}
 use Rattle.hs_plain.specs.Plan.{goes_by, goes, outs, index_of, is_other, is_copied}
+use Rattle.plan_laws.specs.Sight.{Placing, Back, New, target, targets, is_in, Same, Child, Differ, HasDirs}
+use Rattle.hs_plain.specs.Report.{last_of, same_place, has_id}
 use Rattle.plan_laws.specs.Placings.{placing_by, placing_at, placings}
 use Rattle.plan_laws.specs.Pair.{IsTree, IsPair, if_old, old_sight, Alike}
 use Rattle.plan_laws.proofs.Paths.{by, by_one}

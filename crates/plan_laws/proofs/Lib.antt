@@ -7,3 +7,13 @@ pub mod Places
 pub mod Lists
 pub mod Child
 pub mod Moves
+pub mod Copies
+pub mod Natural
+pub mod Whole
+pub mod Lanes
+pub mod Translated
+pub mod Unchanged
+pub mod NewItems
+pub mod Listed
+pub mod Sorted
+pub mod Pairs

@@ -1,5 +1,5 @@
 -- Paths in the lists of a plan.
-use Rattle.std.proofs.Common.{◌≡◌, ℕ, ◌+◌, Bool, true, false, ◌||◌, bytes_eq, cond, Option, Some, None, List, [], ◌∷◌, ◌++◌, length, reverse, refl, ap, sym, subst, ◌∙◌, append-nil, arith}
+use Rattle.std.proofs.Common.{◌≡◌, ℕ, ◌+◌, Bool, true, false, ◌||◌, bytes_eq, cond, Option, None, List, [], ◌∷◌, ◌++◌, length, reverse, refl, ap, sym, subst, ◌∙◌, arith}
 use Rattle.std.proofs.lemmas.List.{reverse-append}
 use Rattle.std.specs.Prelude.{◌&&◌}
 use Rattle.std.proofs.lemmas.Cmp.{tied_itself}
@@ -10,9 +10,9 @@ use Rattle.std.specs.declared.cmp.Ordering.TheVariants.{Less, Equal, Greater}
 use Rattle.hs_types.specs.Names.{Names}
 use Rattle.hs_plain.specs.Tree.{path_cmp, same_path}
 use Rattle.hs_plain.proofs.ValidShapes.{none_some, true_false}
-use Rattle.plan_laws.specs.Sight.{rest_down, hits, cuts, is_in, Each, Pairwise}
-use Rattle.hs_plain.specs.Plan.{index_of}
-use Rattle.plan_laws.proofs.Paths.{by, bytes_eq-itself, rest-here, differs}
+use Rattle.hs_plain.specs.Plan.{rest_below, index_of}
+use Rattle.plan_laws.specs.Sight.{hits, cuts, is_in, Each, Pairwise}
+use Rattle.plan_laws.proofs.Paths.{by, bytes_eq-itself, rest-step, rest-here, differs}
 use Rattle.plan_laws.proofs.Cuts.{hits-cuts}
 
 -- ---- each
@@ -79,10 +79,10 @@ is_in-reverse (x ∷ xs) p =
     ∙ ap (λ b. b || (same_path x p || false)) (is_in-reverse xs p) ∙ or-comm (is_in xs p) (same_path x p)
 
 -- what isn't at or below a path isn't in a list below it
-pub none-in : (paths : List Names) (p y : Names) → Each (λ path. rest_down p path ≡ None) paths → is_in paths (p ++ y) ≡ false
+pub none-in : (paths : List Names) (p y : Names) → Each (λ path. rest_below p path ≡ None) paths → is_in paths (p ++ y) ≡ false
 none-in [] p y none = refl
 none-in (a ∷ others) p y none = by (same_path a (p ++ y))
-    (λ t. absurd (none_some (sym none.0 ∙ ap (rest_down p) (sym (same-so a (p ++ y) t)) ∙ rest-here p y)))
+    (λ t. absurd (none_some (sym none.0 ∙ ap (rest_below p) (sym (same-so a (p ++ y) t)) ∙ rest-here p y)))
     (λ f. ap (λ b. b || is_in others (p ++ y)) f ∙ none-in others p y none.1)
 
 cuts-same : (f g : Names → Bool) (r : Names) → ((n : List ℕ) (x : Names) → f (n ∷ x) ≡ g (n ∷ x)) → cuts f r ≡ cuts g r
@@ -94,13 +94,13 @@ or-right true b h = refl
 or-right false b h = h
 
 -- what some paths take below a path is what all do, where the others are neither at the path nor below it
-pub hits-left : (xs : List Names) (p : Names) (ys : List Names) (r : Names) → Each (λ x. rest_down x p ≡ None) xs → Each (λ y. rest_down p y ≡ None) ys → hits xs (p ++ r) ≡ cuts (λ x. is_in (xs ++ p ∷ ys) (p ++ x)) r
+pub hits-left : (xs : List Names) (p : Names) (ys : List Names) (r : Names) → Each (λ x. rest_below x p ≡ None) xs → Each (λ y. rest_below p y ≡ None) ys → hits xs (p ++ r) ≡ cuts (λ x. is_in (xs ++ p ∷ ys) (p ++ x)) r
 hits-left xs p ys r left right = hits-cuts xs p r left ∙ cuts-same (λ x. is_in xs (p ++ x)) (λ x. is_in (xs ++ p ∷ ys) (p ++ x)) r (λ n x. sym (
     is_in-append xs (p ∷ ys) (p ++ n ∷ x)
     ∙ ap (λ b. is_in xs (p ++ n ∷ x) || (b || is_in ys (p ++ n ∷ x))) (same-more p (n ∷ x))
     ∙ or-right (is_in xs (p ++ n ∷ x)) (is_in ys (p ++ n ∷ x)) (none-in ys p (n ∷ x) right)))
 
-pub hits-right : (xs : List Names) (p : Names) (ys : List Names) (r : Names) → Each (λ x. rest_down p x ≡ None) xs → Each (λ y. rest_down y p ≡ None) ys → hits ys (p ++ r) ≡ cuts (λ x. is_in (xs ++ p ∷ ys) (p ++ x)) r
+pub hits-right : (xs : List Names) (p : Names) (ys : List Names) (r : Names) → Each (λ x. rest_below p x ≡ None) xs → Each (λ y. rest_below y p ≡ None) ys → hits ys (p ++ r) ≡ cuts (λ x. is_in (xs ++ p ∷ ys) (p ++ x)) r
 hits-right xs p ys r left right = hits-cuts ys p r right ∙ cuts-same (λ x. is_in ys (p ++ x)) (λ x. is_in (xs ++ p ∷ ys) (p ++ x)) r (λ n x. sym (
     is_in-append xs (p ∷ ys) (p ++ n ∷ x)
     ∙ ap (λ b. is_in xs (p ++ n ∷ x) || (b || is_in ys (p ++ n ∷ x))) (same-more p (n ∷ x))
@@ -134,13 +134,13 @@ index-once (a ∷ others) p q h k e = by (same_path a p)
 -- ---- order
 
 -- a path before another isn't at it or below it
-pub before-none : (x y : Names) → is_lt (path_cmp x y) ≡ true → rest_down y x ≡ None
+pub before-none : (x y : Names) → is_lt (path_cmp x y) ≡ true → rest_below y x ≡ None
 before-none [] [] h = absurd (true_false h refl)
 before-none (n ∷ x) [] h = absurd (true_false h refl)
 before-none [] (m ∷ y) h = refl
-before-none (n ∷ x) (m ∷ y) h =
-    (elim (slice_cmp nat_cmp n m) as (λ o. slice_cmp nat_cmp n m ≡ o → is_lt (ordering_then o (path_cmp x y)) ≡ true → cond (bytes_eq m n) (rest_down y x) None ≡ None) [
-      | Less ↦ λ o h. ap (λ b. cond b (rest_down y x) None) (differs m n (λ e. less-equal (sym o ∙ ap (slice_cmp nat_cmp n) e ∙ tied_itself nat_list_cmp_total n)))
+before-none (n ∷ x) (m ∷ y) h = rest-step m n y x ∙
+    (elim (slice_cmp nat_cmp n m) as (λ o. slice_cmp nat_cmp n m ≡ o → is_lt (ordering_then o (path_cmp x y)) ≡ true → cond (bytes_eq m n) (rest_below y x) None ≡ None) [
+      | Less ↦ λ o h. ap (λ b. cond b (rest_below y x) None) (differs m n (λ e. less-equal (sym o ∙ ap (slice_cmp nat_cmp n) e ∙ tied_itself nat_list_cmp_total n)))
       | Equal ↦ λ o h. ap (λ r. cond (bytes_eq m n) r None) (before-none x y h) ∙ both-none (bytes_eq m n)
       | Greater ↦ λ o h. absurd (true_false h refl)
     ]) refl h

@@ -10,9 +10,9 @@ use Rattle.hs_plain.specs.Tree.{Tree, path_cmp, node_at, is_dir, parent_of, plac
 use Rattle.hs_plain.proofs.ValidTrees.{first, second}
 use Rattle.hs_plain.proofs.ValidShapes.{none_some, same_some, true_false, by_last, not_last}
 use Rattle.hs_plain.proofs.ValidPlaces.{head_at, in_tail, by_place, missing_below, one_place}
-use Rattle.plan_laws.specs.Sight.{Sight, Placing, Back, New, target, targets, rest_down, hits, unless, cuts, is_in, inside_or, at_top, made_sight, outs_done, puts_done, Each, NoneBelow, Rises, IsOutside, OutsGo, PutsGo, Ready, IsOther, NumberOnce, IsLinked, Stands}
+use Rattle.hs_plain.specs.Plan.{rest_below, goes_by, goes, outs, index_of}
+use Rattle.plan_laws.specs.Sight.{Sight, Placing, Back, New, target, targets, hits, unless, cuts, is_in, inside_or, at_top, made_sight, outs_done, puts_done, Each, NoneBelow, Rises, IsOutside, OutsGo, PutsGo, Ready, IsOther, NumberOnce, IsLinked, Stands}
 use Rattle.hs_plain.specs.Report.{same_place, last_of}
-use Rattle.hs_plain.specs.Plan.{goes_by, goes, outs, index_of}
 use Rattle.plan_laws.specs.Placings.{placing_by, placing_at, placings}
 use Rattle.plan_laws.specs.Pair.{IsTree, IsPair, if_old, old_sight, Alike}
 use Rattle.plan_laws.proofs.Paths.{by, by_one, rest-here, outside-none}
@@ -47,7 +47,7 @@ module _ {B : Type 0} where
   rises-filter test [] h = tt
   rises-filter test (e ∷ es) h =
       let rest : Rises (map path_of_place (filter test es)) = rises-filter test es (second (below_all path_cmp e.0 es) _ h) in
-      let above : Each (λ later. rest_down later e.0 ≡ None) (map path_of_place (filter test es)) = each-filter (λ later. rest_down later e.0 ≡ None) test es (second (below_all path_cmp e.0 es) _ h)
+      let above : Each (λ later. rest_below later e.0 ≡ None) (map path_of_place (filter test es)) = each-filter (λ later. rest_below later e.0 ≡ None) test es (second (below_all path_cmp e.0 es) _ h)
           (λ q m at _. before-none e.0 q (below-so e.0 es q m (first (below_all path_cmp e.0 es) _ h) at)) in
       elim (test e) as (λ b. Rises (map path_of_place (cond b (e ∷ filter test es) (filter test es)))) [
         | true ↦ (above, rest)
@@ -73,20 +73,20 @@ module _ {B : Type 0} where
     rises-targets land [] h = tt
     rises-targets land (e ∷ es) h =
         let rest : Rises (targets (filter_map f es)) = rises-targets land es (second (below_all path_cmp e.0 es) _ h) in
-        let above : Each (λ later. rest_down later e.0 ≡ None) (targets (filter_map f es)) = each-target (λ later. rest_down later e.0 ≡ None) (filter_map f es)
-            (each-put (λ put. rest_down (target put) e.0 ≡ None) es (second (below_all path_cmp e.0 es) _ h)
-            (λ q m put at is. ap (λ (x : Names). rest_down x e.0) (land q m put is) ∙ before-none e.0 q (below-so e.0 es q m (first (below_all path_cmp e.0 es) _ h) at))) in
+        let above : Each (λ later. rest_below later e.0 ≡ None) (targets (filter_map f es)) = each-target (λ later. rest_below later e.0 ≡ None) (filter_map f es)
+            (each-put (λ put. rest_below (target put) e.0 ≡ None) es (second (below_all path_cmp e.0 es) _ h)
+            (λ q m put at is. ap (λ (x : Names). rest_below x e.0) (land q m put is) ∙ before-none e.0 q (below-so e.0 es q m (first (below_all path_cmp e.0 es) _ h) at))) in
         (elim (f e) as (λ o. f e ≡ o → Rises (targets (cons_option o (filter_map f es)))) [
           | None ↦ λ t. rest
-          | Some put ↦ λ t. (subst (λ (x : Names). Each (λ later. rest_down later x ≡ None) (targets (filter_map f es))) (sym (land e.0 e.1 put t)) above, rest)
+          | Some put ↦ λ t. (subst (λ (x : Names). Each (λ later. rest_below later x ≡ None) (targets (filter_map f es))) (sym (land e.0 e.1 put t)) above, rest)
         ]) refl
 
   linked : (all before : List Names) (ps : List (Placing (Node B))) → all ≡ before ++ targets ps → Rises all → IsLinked (is_in all) ps
   linked all before [] e rises = tt
   linked all before (put ∷ ps) e rises =
       let there : Rises (before ++ target put ∷ targets ps) = subst Rises e rises in
-      let later : Each (λ later. rest_down later (target put) ≡ None) (targets ps) = pairwise-after (λ path later. rest_down later path ≡ None) before (target put) (targets ps) there in
-      let earlier : Each (λ path. rest_down (target put) path ≡ None) before = pairwise-before (λ path later. rest_down later path ≡ None) before (target put) (targets ps) there in
+      let later : Each (λ later. rest_below later (target put) ≡ None) (targets ps) = pairwise-after (λ path later. rest_below later path ≡ None) before (target put) (targets ps) there in
+      let earlier : Each (λ path. rest_below (target put) path ≡ None) before = pairwise-before (λ path later. rest_below later path ≡ None) before (target put) (targets ps) there in
       (later,
        (λ r. hits-right before (target put) (targets ps) r earlier later ∙ ap (λ (paths : List Names). cuts (λ x. is_in paths (target put ++ x)) r) (sym e)),
        linked all (before ++ target put ∷ []) ps (e ∙ sym (append_assoc before (target put ∷ []) (targets ps))) rises)
@@ -114,7 +114,7 @@ module _ {B : Type 0} (from to : Tree B) (is : IsPair from to) (tmp : List ℕ) 
   pub outside-so : (tree : Tree B) → IsTree tree → node_at tree (tmp ∷ []) ≡ None → (q : Names) (m : Node B) → (q ≡ [] → ⊥) → node_at tree q ≡ Some m → IsOutside tmp q
   outside-so tree whole free q m below at = by_last (λ q. (q ≡ [] → ⊥) → node_at tree q ≡ Some m → IsOutside tmp q) q (λ below at. below refl) (λ above name below at. outside tree whole free above name m at) below at
 
-  begun-outside : (q : Names) → rest_down (tmp ∷ []) q ≡ None → begun q ≡ node_at from q
+  begun-outside : (q : Names) → rest_below (tmp ∷ []) q ≡ None → begun q ≡ node_at from q
   begun-outside q out = ap (λ o. inside_or o (at_top top (node_at from q)) (node_at from q)) out
 
   begun-top : begun (tmp ∷ []) ≡ Some top
@@ -138,12 +138,12 @@ module _ {B : Type 0} (from to : Tree B) (is : IsPair from to) (tmp : List ℕ) 
   outs-outside-tmp = each-out (IsOutside tmp) (λ p x at go. outside-so from is.from_tree from_free p x (goes-below p x at go) at)
 
   pub outs-fall : NoneBelow (outs from to)
-  outs-fall = pairwise-reverse (λ path later. rest_down later path ≡ None) (map path_of_place (filter (goes from to) from)) (rises-filter (goes from to) from is.from_tree.sorted)
+  outs-fall = pairwise-reverse (λ path later. rest_below later path ≡ None) (map path_of_place (filter (goes from to) from)) (rises-filter (goes from to) from is.from_tree.sorted)
 
   -- each out is accepted
   pub all-outs-go : OutsGo is_dir tmp number begun 0 (outs from to)
   all-outs-go = outs-go tmp number once is_dir (outs from to) begun 0 outs-outside-tmp outs-fall
-      (each-out (λ p. is_some (begun p) ≡ true) (λ p x at go. ap is_some (begun-outside p (ap (rest_down (tmp ∷ [])) (sym (append-nil p)) ∙ outside-none tmp [] p [] (outside-so from is.from_tree from_free p x (goes-below p x at go) at)) ∙ at)))
+      (each-out (λ p. is_some (begun p) ≡ true) (λ p x at go. ap is_some (begun-outside p (ap (rest_below (tmp ∷ [])) (sym (append-nil p)) ∙ outside-none tmp [] p [] (outside-so from is.from_tree from_free p x (goes-below p x at go) at)) ∙ at)))
       (top, begun-top, top_dir)
       (λ j _. begun-free j)
 
@@ -151,14 +151,14 @@ module _ {B : Type 0} (from to : Tree B) (is : IsPair from to) (tmp : List ℕ) 
   pub outs-stand : Stands (Alike from) (old_sight from to) tmp outs_over (targets (placings from to))
   outs-stand q out = both-at (Alike from)
       (outs-outside tmp number once (outs from to) begun 0 q out ∙ ap (unless (hits (outs from to) q)) (begun-outside q out)
-       ∙ ap (λ b. unless b (node_at from q)) (hits-cuts (outs from to) [] q (each-out (λ p. rest_down p [] ≡ None) (λ p x at go. not-below p (goes-below p x at go)))))
+       ∙ ap (λ b. unless b (node_at from q)) (hits-cuts (outs from to) [] q (each-out (λ p. rest_below p [] ≡ None) (λ p x at go. not-below p (goes-below p x at go)))))
       (ap (λ b. unless b (old_sight from to q)) (hits-cuts (targets (placings from to)) [] q (no-root (placings from to))))
       (alike-below (Alike from) (node_at from) (old_sight from to) (is_in (outs from to)) (is_in (targets (placings from to))) (differ from to is) q [] [] is.from_root is.to_root is.from_at root_old root_alike)
     where
-      not-below : (p : Names) → (p ≡ [] → ⊥) → rest_down p [] ≡ None
+      not-below : (p : Names) → (p ≡ [] → ⊥) → rest_below p [] ≡ None
       not-below [] below = absurd (below refl)
       not-below (n ∷ p) below = refl
-      no-root : (ps : List (Placing (Node B))) → Each (λ p. rest_down p [] ≡ None) (targets ps)
+      no-root : (ps : List (Placing (Node B))) → Each (λ p. rest_below p [] ≡ None) (targets ps)
       no-root [] = tt
       no-root (Back i above name ∷ ps) = (not-below (above ++ name ∷ []) (not_last above name), no-root ps)
       no-root (New node above name ∷ ps) = (not-below (above ++ name ∷ []) (not_last above name), no-root ps)
@@ -213,7 +213,7 @@ module _ {B : Type 0} (from to : Tree B) (is : IsPair from to) (tmp : List ℕ) 
       ∙ ap (λ i. outs_done tmp number begun 0 (at.0 ++ p ∷ at.1) (tmp ∷ number i ∷ r)) {y = 0 + length at.0} (let e : index_of (outs from to) p ≡ length at.0 = at.3 in omega arith)
       ∙ outs-inside tmp number once at.0 p at.1 begun 0 r (each-front at.0 p at.1 out) p_out (each-back at.0 p at.1 out)
       ∙ ap (unless (hits at.0 (p ++ r))) (begun-outside (p ++ r) (outside-none tmp [] p r p_out))
-      ∙ ap (λ b. unless b (node_at from (p ++ r))) (hits-left at.0 p at.1 r (pairwise-before (λ path later. rest_down path later ≡ None) at.0 p at.1 fall) (pairwise-after (λ path later. rest_down path later ≡ None) at.0 p at.1 fall))
+      ∙ ap (λ b. unless b (node_at from (p ++ r))) (hits-left at.0 p at.1 r (pairwise-before (λ path later. rest_below path later ≡ None) at.0 p at.1 fall) (pairwise-after (λ path later. rest_below path later ≡ None) at.0 p at.1 fall))
       ∙ ap (λ (paths : List Names). unless (cuts (λ x. is_in paths (p ++ x)) r) (node_at from (p ++ r))) (sym at.2)
     where
       each-middle : (xs : List Names) (x : Names) (ys : List Names) → Each (IsOutside tmp) (xs ++ x ∷ ys) → IsOutside tmp x

@@ -1,14 +1,15 @@
 -- Where the nodes of a tree stand after the outs, and that each out is accepted.
-use Rattle.std.proofs.Common.{◌≡◌, ℕ, ◌+◌, ◌<◌, ◌≤◌, Bool, true, false, ◌||◌, bytes_eq, cond, Option, Some, None, is_some, List, [], ◌∷◌, ◌++◌, length, refl, ap, sym, ◌∙◌, append-nil, arith}
+use Rattle.std.proofs.Common.{◌≡◌, ℕ, ◌+◌, ◌<◌, ◌≤◌, Bool, true, false, ◌||◌, Option, Some, None, is_some, List, [], ◌∷◌, ◌++◌, length, refl, ap, sym, ◌∙◌, append-nil, arith}
 use Rattle.hs_types.specs.Names.{Names}
-use Rattle.plan_laws.specs.Sight.{Sight, rest_down, is_at_or_below, hits, inside_or, moved_sight, unless, outs_done, Each, NoneBelow, IsOutside, OutsGo}
-use Rattle.plan_laws.proofs.Paths.{bytes_eq-itself, rest-here, differs, none-deeper, outside-none, outside-other}
+use Rattle.hs_plain.specs.Plan.{rest_below}
+use Rattle.plan_laws.specs.Sight.{Sight, is_at_or_below, hits, inside_or, moved_sight, unless, outs_done, Each, NoneBelow, IsOutside, OutsGo}
+use Rattle.plan_laws.proofs.Paths.{rest-here, none-deeper, outside-none, outside-other, other-child, not-itself}
 
 module _ {X : Type 0} (tmp : List ℕ) (number : ℕ → List ℕ) (once : (i j : ℕ) → number i ≡ number j → i ≡ j) where
-  moved-outside : (s : Sight X) (k : ℕ) (p q : Names) → rest_down (tmp ∷ []) q ≡ None → moved_sight s p (tmp ∷ number k ∷ []) q ≡ unless (is_at_or_below p q) (s q)
+  moved-outside : (s : Sight X) (k : ℕ) (p q : Names) → rest_below (tmp ∷ []) q ≡ None → moved_sight s p (tmp ∷ number k ∷ []) q ≡ unless (is_at_or_below p q) (s q)
   moved-outside s k p q out =
-      ap (λ o. inside_or o (λ rest. s (p ++ rest)) (inside_or (rest_down p q) (λ rest. None) (s q))) (none-deeper tmp (number k ∷ []) q out)
-      ∙ at (rest_down p q)
+      ap (λ o. inside_or o (λ rest. s (p ++ rest)) (inside_or (rest_below p q) (λ rest. None) (s q))) (none-deeper tmp (number k ∷ []) q out)
+      ∙ at (rest_below p q)
     where
       at : (o : Option Names) → inside_or o (λ rest. None) (s q) ≡ unless (is_some o) (s q)
       at None = refl
@@ -21,7 +22,7 @@ module _ {X : Type 0} (tmp : List ℕ) (number : ℕ → List ℕ) (once : (i j 
   unless-more false false o = refl
 
   -- outside of tmp nothing is left at an out or below it, and all else stands
-  pub outs-outside : (paths : List Names) (s : Sight X) (k : ℕ) (q : Names) → rest_down (tmp ∷ []) q ≡ None → outs_done tmp number s k paths q ≡ unless (hits paths q) (s q)
+  pub outs-outside : (paths : List Names) (s : Sight X) (k : ℕ) (q : Names) → rest_below (tmp ∷ []) q ≡ None → outs_done tmp number s k paths q ≡ unless (hits paths q) (s q)
   outs-outside [] s k q out = refl
   outs-outside (p ∷ ps) s k q out =
       outs-outside ps (moved_sight s p (tmp ∷ number k ∷ [])) (k + 1) q out
@@ -31,17 +32,16 @@ module _ {X : Type 0} (tmp : List ℕ) (number : ℕ → List ℕ) (once : (i j 
   -- what stands in tmp under other numbers stays
   moved-kept : (s : Sight X) (k j : ℕ) (p r : Names) → IsOutside tmp p → (j ≡ k → ⊥) → moved_sight s p (tmp ∷ number k ∷ []) (tmp ∷ number j ∷ r) ≡ s (tmp ∷ number j ∷ r)
   moved-kept s k j p r out other =
-      ap (λ b. inside_or (cond b (cond (bytes_eq (number k) (number j)) (Some r) None) None) (λ rest. s (p ++ rest)) (inside_or (rest_down p (tmp ∷ number j ∷ r)) (λ rest. None) (s (tmp ∷ number j ∷ r)))) (bytes_eq-itself tmp)
-      ∙ ap (λ b. inside_or (cond b (Some r) None) (λ rest. s (p ++ rest)) (inside_or (rest_down p (tmp ∷ number j ∷ r)) (λ rest. None) (s (tmp ∷ number j ∷ r)))) (differs (number k) (number j) (λ e. other (sym (once k j e))))
+      ap (λ o. inside_or o (λ rest. s (p ++ rest)) (inside_or (rest_below p (tmp ∷ number j ∷ r)) (λ rest. None) (s (tmp ∷ number j ∷ r)))) (other-child tmp (number k) (number j) r (λ e. other (sym (once k j e))))
       ∙ ap (λ o. inside_or o (λ rest. None) (s (tmp ∷ number j ∷ r))) (outside-other tmp p (number j ∷ r) out)
 
   moved-top : (s : Sight X) (k : ℕ) (p : Names) → IsOutside tmp p → moved_sight s p (tmp ∷ number k ∷ []) (tmp ∷ []) ≡ s (tmp ∷ [])
   moved-top s k p out =
-      ap (λ b. inside_or (cond b None None) (λ rest. s (p ++ rest)) (inside_or (rest_down p (tmp ∷ [])) (λ rest. None) (s (tmp ∷ [])))) (bytes_eq-itself tmp)
+      ap (λ o. inside_or o (λ rest. s (p ++ rest)) (inside_or (rest_below p (tmp ∷ [])) (λ rest. None) (s (tmp ∷ [])))) (not-itself tmp (number k))
       ∙ ap (λ o. inside_or o (λ rest. None) (s (tmp ∷ []))) (outside-other tmp p [] out)
 
   moved-in : (s : Sight X) (k : ℕ) (p r : Names) → moved_sight s p (tmp ∷ number k ∷ []) (tmp ∷ number k ∷ r) ≡ s (p ++ r)
-  moved-in s k p r = ap (λ o. inside_or o (λ rest. s (p ++ rest)) (inside_or (rest_down p (tmp ∷ number k ∷ r)) (λ rest. None) (s (tmp ∷ number k ∷ r)))) (rest-here (tmp ∷ number k ∷ []) r)
+  moved-in s k p r = ap (λ o. inside_or o (λ rest. s (p ++ rest)) (inside_or (rest_below p (tmp ∷ number k ∷ r)) (λ rest. None) (s (tmp ∷ number k ∷ r)))) (rest-here (tmp ∷ number k ∷ []) r)
 
   moved-elsewhere : (s : Sight X) (k : ℕ) (p q r : Names) → IsOutside tmp q → moved_sight s p (tmp ∷ number k ∷ []) (q ++ r) ≡ unless (is_at_or_below p (q ++ r)) (s (q ++ r))
   moved-elsewhere s k p q r out = moved-outside s k p (q ++ r) (outside-none tmp [] q r out)
@@ -70,7 +70,7 @@ module _ {X : Type 0} (tmp : List ℕ) (number : ℕ → List ℕ) (once : (i j 
   -- ---- each out is accepted
 
   module _ (is_dir : X → Bool) where
-    still-there : (s : Sight X) (k : ℕ) (p : Names) (paths : List Names) → Each (IsOutside tmp) paths → Each (λ later. rest_down p later ≡ None) paths →
+    still-there : (s : Sight X) (k : ℕ) (p : Names) (paths : List Names) → Each (IsOutside tmp) paths → Each (λ later. rest_below p later ≡ None) paths →
         Each (λ path. is_some (s path) ≡ true) paths → Each (λ path. is_some (moved_sight s p (tmp ∷ number k ∷ []) path) ≡ true) paths
     still-there s k p [] out apart there = tt
     still-there s k p (q ∷ qs) out apart there =

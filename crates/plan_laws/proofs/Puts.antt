@@ -1,8 +1,9 @@
 -- What stands after the puts, and that each put is accepted.
-use Rattle.std.proofs.Common.{◌≡◌, ◌⊎◌, ℕ, Bool, true, false, ◌||◌, bytes_eq, cond, Option, Some, None, is_some, List, [], ◌∷◌, ◌++◌, refl, ap, sym, subst, ◌∙◌, append-nil}
+use Rattle.std.proofs.Common.{◌≡◌, ◌⊎◌, ℕ, Bool, true, false, ◌||◌, Option, Some, None, is_some, List, [], ◌∷◌, ◌++◌, refl, ap, sym, subst, ◌∙◌, append-nil}
 use Rattle.hs_types.specs.Names.{Names}
-use Rattle.plan_laws.specs.Sight.{Sight, rest_down, hits, inside_or, moved_sight, at_top, made_sight, unless, cuts, Both, Each, IsOutside, Placing, Back, New, targets, puts_done, PutsGo, Differ, Ready, IsOther, NumberOnce, IsLinked, Stands, HasDirs}
-use Rattle.plan_laws.proofs.Paths.{by_one, bytes_eq-itself, rest-here, rest-so, differs, none-deeper, outside-none, outside-other}
+use Rattle.hs_plain.specs.Plan.{rest_below}
+use Rattle.plan_laws.specs.Sight.{Sight, hits, inside_or, moved_sight, at_top, made_sight, unless, cuts, Both, Each, IsOutside, Placing, Back, New, targets, puts_done, PutsGo, Differ, Ready, IsOther, NumberOnce, IsLinked, Stands, HasDirs}
+use Rattle.plan_laws.proofs.Paths.{by_one, rest-here, rest-so, none-shorter, none-above, none-deeper, outside-none, outside-other, other-child, not-itself}
 use Rattle.plan_laws.proofs.Alike.{both-at, alike-below, below-put}
 
 none_here : {X : Type 0} (Alike : X → X → Type 0) (o : Option X) → Both Alike o None → o ≡ None
@@ -13,21 +14,7 @@ here_some : {X : Type 0} (Alike : X → X → Type 0) (o : Option X) (b : X) →
 here_some Alike None b h = absurd h
 here_some Alike (Some a) b h = (a, refl, h)
 
--- a path that isn't below another isn't either when it ends earlier
-none-shorter : (a q r : Names) → rest_down a (q ++ r) ≡ None → rest_down a q ≡ None
-none-shorter [] q r h = cc
-none-shorter (m ∷ a) [] r h = refl
-none-shorter (m ∷ a) (n ∷ q) r h =
-    (elim (bytes_eq m n) as (λ b. cond b (rest_down a (q ++ r)) None ≡ None → cond b (rest_down a q) None ≡ None) [
-      | true ↦ λ g. none-shorter a q r g
-      | false ↦ λ g. refl
-    ]) h
-
-none-above : (above : Names) (name : List ℕ) → rest_down (above ++ name ∷ []) above ≡ None
-none-above [] name = refl
-none-above (n ∷ above) name = ap (λ b. cond b (rest_down (above ++ name ∷ []) above) None) (bytes_eq-itself n) ∙ none-above above name
-
-no-hits : (paths : List Names) (q r : Names) → Each (λ path. rest_down path (q ++ r) ≡ None) paths → hits paths q ≡ false
+no-hits : (paths : List Names) (q r : Names) → Each (λ path. rest_below path (q ++ r) ≡ None) paths → hits paths q ≡ false
 no-hits [] q r none = refl
 no-hits (a ∷ others) q r none = ap (λ o. is_some o || hits others q) (none-shorter a q r none.0) ∙ no-hits others q r none.1
 
@@ -38,9 +25,8 @@ module _ {X : Type 0} (Alike : X → X → Type 0) (from to : Sight X) (is_out i
 
   back-kept : (s : Sight X) (i j : ℕ) (t r : Names) → IsOutside tmp t → (j ≡ i → ⊥) → moved_sight s (tmp ∷ number i ∷ []) t (tmp ∷ number j ∷ r) ≡ s (tmp ∷ number j ∷ r)
   back-kept s i j t r out other =
-      ap (λ o. inside_or o (λ rest. s (tmp ∷ number i ∷ rest)) (inside_or (rest_down (tmp ∷ number i ∷ []) (tmp ∷ number j ∷ r)) (λ rest. None) (s (tmp ∷ number j ∷ r)))) (outside-other tmp t (number j ∷ r) out)
-      ∙ ap (λ b. inside_or (cond b (cond (bytes_eq (number i) (number j)) (Some r) None) None) (λ rest. None) (s (tmp ∷ number j ∷ r))) (bytes_eq-itself tmp)
-      ∙ ap (λ b. inside_or (cond b (Some r) None) (λ rest. None) (s (tmp ∷ number j ∷ r))) (differs (number i) (number j) (λ e. other (sym (once i j e))))
+      ap (λ o. inside_or o (λ rest. s (tmp ∷ number i ∷ rest)) (inside_or (rest_below (tmp ∷ number i ∷ []) (tmp ∷ number j ∷ r)) (λ rest. None) (s (tmp ∷ number j ∷ r)))) (outside-other tmp t (number j ∷ r) out)
+      ∙ ap (λ o. inside_or o (λ rest. None) (s (tmp ∷ number j ∷ r))) (other-child tmp (number i) (number j) r (λ e. other (sym (once i j e))))
 
   new-kept : (s : Sight X) (t : Names) (node : X) (q : Names) → IsOutside tmp t → made_sight s t node (tmp ∷ q) ≡ s (tmp ∷ q)
   new-kept s t node q out = ap (λ o. inside_or o (at_top node (s (tmp ∷ q))) (s (tmp ∷ q))) (outside-other tmp t q out)
@@ -49,8 +35,8 @@ module _ {X : Type 0} (Alike : X → X → Type 0) (from to : Sight X) (is_out i
   puts-top [] s out = refl
   puts-top (Back i above name ∷ puts) s out =
       puts-top puts (moved_sight s (tmp ∷ number i ∷ []) (above ++ name ∷ [])) out.1
-      ∙ ap (λ o. inside_or o (λ rest. s (tmp ∷ number i ∷ rest)) (inside_or (rest_down (tmp ∷ number i ∷ []) (tmp ∷ [])) (λ rest. None) (s (tmp ∷ [])))) (outside-other tmp (above ++ name ∷ []) [] out.0)
-      ∙ ap (λ b. inside_or (cond b None None) (λ rest. None) (s (tmp ∷ []))) (bytes_eq-itself tmp)
+      ∙ ap (λ o. inside_or o (λ rest. s (tmp ∷ number i ∷ rest)) (inside_or (rest_below (tmp ∷ number i ∷ []) (tmp ∷ [])) (λ rest. None) (s (tmp ∷ [])))) (outside-other tmp (above ++ name ∷ []) [] out.0)
+      ∙ ap (λ o. inside_or o (λ rest. None) (s (tmp ∷ []))) (not-itself tmp (number i))
   puts-top (New node above name ∷ puts) s out = puts-top puts (made_sight s (above ++ name ∷ []) node) out.1 ∙ new-kept s (above ++ name ∷ []) node [] out.0
 
   abbrev Is : Sight X → Placing X → Type 0
@@ -78,25 +64,25 @@ module _ {X : Type 0} (Alike : X → X → Type 0) (from to : Sight X) (is_out i
   After s paths q = Both Alike (s q) (unless (hits paths q) (to q))
 
   -- elsewhere nothing changes
-  apart-hits : (t : Names) (paths : List Names) (q : Names) → rest_down t q ≡ None → hits (t ∷ paths) q ≡ hits paths q
+  apart-hits : (t : Names) (paths : List Names) (q : Names) → rest_below t q ≡ None → hits (t ∷ paths) q ≡ hits paths q
   apart-hits t paths q none = ap (λ o. is_some o || hits paths q) none
 
   back-stands : (s : Sight X) (i : ℕ) (t p : Names) (a b : X) (paths : List Names) → from p ≡ Some a → to t ≡ Some b → Alike a b →
       ((r : Names) → s (tmp ∷ number i ∷ r) ≡ unless (cuts (λ x. is_out (p ++ x)) r) (from (p ++ r))) →
       ((r : Names) → hits paths (t ++ r) ≡ cuts (λ x. is_put (t ++ x)) r) → Stands Alike to tmp s (t ∷ paths) → Stands Alike to tmp (moved_sight s (tmp ∷ number i ∷ []) t) paths
-  back-stands s i t p a b paths here there alike held linked stands q out = by_one (rest_down t q)
+  back-stands s i t p a b paths here there alike held linked stands q out = by_one (rest_below t q)
       (λ r below. let is : q ≡ t ++ r = rest-so t q r below in
         both-at Alike
-          (ap (λ o. inside_or o (λ rest. s (tmp ∷ number i ∷ rest)) (inside_or (rest_down (tmp ∷ number i ∷ []) q) (λ rest. None) (s q))) below ∙ held r)
+          (ap (λ o. inside_or o (λ rest. s (tmp ∷ number i ∷ rest)) (inside_or (rest_below (tmp ∷ number i ∷ []) q) (λ rest. None) (s q))) below ∙ held r)
           (ap (λ (x : Names). unless (hits paths x) (to x)) is ∙ ap (λ c. unless c (to (t ++ r))) (linked r))
           (alike-below Alike from to is_out is_put differ r p t a b here there alike))
       (λ apart. both-at Alike
-          (ap (λ o. inside_or o (λ rest. s (tmp ∷ number i ∷ rest)) (inside_or (rest_down (tmp ∷ number i ∷ []) q) (λ rest. None) (s q))) apart
+          (ap (λ o. inside_or o (λ rest. s (tmp ∷ number i ∷ rest)) (inside_or (rest_below (tmp ∷ number i ∷ []) q) (λ rest. None) (s q))) apart
            ∙ ap (λ o. inside_or o (λ rest. None) (s q)) (none-deeper tmp (number i ∷ []) q out))
           (ap (λ c. unless c (to q)) (sym (apart-hits t paths q apart)))
           (stands q out))
 
-  new-below : (s : Sight X) (t : Names) (node : X) (paths : List Names) (q r : Names) → rest_down t q ≡ Some r → q ≡ t ++ r → rest_down (tmp ∷ []) q ≡ None → to t ≡ Some node → Alike node node →
+  new-below : (s : Sight X) (t : Names) (node : X) (paths : List Names) (q r : Names) → rest_below t q ≡ Some r → q ≡ t ++ r → rest_below (tmp ∷ []) q ≡ None → to t ≡ Some node → Alike node node →
       ((n : List ℕ) → to (t ++ n ∷ []) ≡ None ⊎ is_put (t ++ n ∷ []) ≡ true) →
       ((r : Names) → hits paths (t ++ r) ≡ cuts (λ x. is_put (t ++ x)) r) → Stands Alike to tmp s (t ∷ paths) → Both Alike (at_top node (s q) r) (unless (hits paths q) (to q))
   new-below s t node paths q [] below is out there alike empty linked stands =
@@ -109,7 +95,7 @@ module _ {X : Type 0} (Alike : X → X → Type 0) (from to : Sight X) (is_out i
 
   new-stands : (s : Sight X) (t : Names) (node : X) (paths : List Names) → to t ≡ Some node → Alike node node → ((n : List ℕ) → to (t ++ n ∷ []) ≡ None ⊎ is_put (t ++ n ∷ []) ≡ true) →
       ((r : Names) → hits paths (t ++ r) ≡ cuts (λ x. is_put (t ++ x)) r) → Stands Alike to tmp s (t ∷ paths) → Stands Alike to tmp (made_sight s t node) paths
-  new-stands s t node paths there alike empty linked stands q out = by_one (rest_down t q)
+  new-stands s t node paths there alike empty linked stands q out = by_one (rest_below t q)
       (λ r below. both-at Alike {v = unless (hits paths q) (to q)} {w = unless (hits paths q) (to q)} (ap (λ o. inside_or o (at_top node (s q)) (s q)) below) refl
           (new-below s t node paths q r below (rest-so t q r below) out there alike empty linked stands))
       (λ apart. both-at Alike (ap (λ o. inside_or o (at_top node (s q)) (s q)) apart) (ap (λ c. unless c (to q)) (sym (apart-hits t paths q apart))) (stands q out))
@@ -131,11 +117,11 @@ module _ {X : Type 0} (Alike : X → X → Type 0) (from to : Sight X) (is_out i
   -- ---- each put is accepted
 
   module _ (is_dir : X → Bool) (kinds : (a b : X) → Alike a b → is_dir a ≡ is_dir b) (dirs : HasDirs is_dir to) where
-    above-outside : (above : Names) (name : List ℕ) → IsOutside tmp (above ++ name ∷ []) → rest_down (tmp ∷ []) above ≡ None
-    above-outside above name out = none-shorter (tmp ∷ []) above (name ∷ []) (ap (rest_down (tmp ∷ [])) (sym (append-nil (above ++ name ∷ []))) ∙ outside-none tmp [] (above ++ name ∷ []) [] out)
+    above-outside : (above : Names) (name : List ℕ) → IsOutside tmp (above ++ name ∷ []) → rest_below (tmp ∷ []) above ≡ None
+    above-outside above name out = none-shorter (tmp ∷ []) above (name ∷ []) (ap (rest_below (tmp ∷ [])) (sym (append-nil (above ++ name ∷ []))) ∙ outside-none tmp [] (above ++ name ∷ []) [] out)
 
     dir-above : (s : Sight X) (above : Names) (name : List ℕ) (paths : List Names) (b : X) → IsOutside tmp (above ++ name ∷ []) → to (above ++ name ∷ []) ≡ Some b →
-        Each (λ later. rest_down later (above ++ name ∷ []) ≡ None) paths → Stands Alike to tmp s ((above ++ name ∷ []) ∷ paths) → (node : X) × (s above ≡ Some node) × (is_dir node ≡ true)
+        Each (λ later. rest_below later (above ++ name ∷ []) ≡ None) paths → Stands Alike to tmp s ((above ++ name ∷ []) ∷ paths) → (node : X) × (s above ≡ Some node) × (is_dir node ≡ true)
     dir-above s above name paths b out there apart stands =
         let d : (dir : X) × (to above ≡ Some dir) × (is_dir dir ≡ true) = dirs above name b there in
         let clear : hits ((above ++ name ∷ []) ∷ paths) above ≡ false = ap (λ o. is_some o || hits paths above) (none-above above name) ∙ no-hits paths above (name ∷ []) apart in
@@ -144,8 +130,8 @@ module _ {X : Type 0} (Alike : X → X → Type 0) (from to : Sight X) (is_out i
 
     free-at : (s : Sight X) (t : Names) (paths : List Names) → IsOutside tmp t → Stands Alike to tmp s (t ∷ paths) → s t ≡ None
     free-at s t paths out stands = none_here Alike (s t)
-        (subst (λ c. Both Alike (s t) (unless c (to t))) (ap (λ (x : Names). is_some (rest_down t x) || hits paths t) (sym (append-nil t)) ∙ ap (λ o. is_some o || hits paths t) (rest-here t []))
-         (stands t (ap (rest_down (tmp ∷ [])) (sym (append-nil t)) ∙ outside-none tmp [] t [] out)))
+        (subst (λ c. Both Alike (s t) (unless c (to t))) (ap (λ (x : Names). is_some (rest_below t x) || hits paths t) (sym (append-nil t)) ∙ ap (λ o. is_some o || hits paths t) (rest-here t []))
+         (stands t (ap (rest_below (tmp ∷ [])) (sym (append-nil t)) ∙ outside-none tmp [] t [] out)))
 
     pub puts-go : (puts : List (Placing X)) (s : Sight X) → Each (IsOutside tmp) (targets puts) → NumberOnce puts → IsLinked is_put puts → Each (Is s) puts → Stands Alike to tmp s (targets puts) →
         PutsGo is_dir tmp number s puts

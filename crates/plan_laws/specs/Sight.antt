@@ -1,19 +1,14 @@
 -- What stands at each path of a tree, and how the moves of a plan change it.
-use Rattle.std.specs.Prelude.{◌≡◌, ◌⊎◌, ℕ, ◌+◌, Bool, true, false, ◌||◌, bytes_eq, if◌then◌else◌, List, [], ◌∷◌, ◌++◌, Option, Some, None, is_some}
+use Rattle.std.specs.Prelude.{◌≡◌, ◌⊎◌, ℕ, ◌+◌, Bool, true, false, ◌||◌, if◌then◌else◌, List, [], ◌∷◌, ◌++◌, Option, Some, None, is_some}
 use Rattle.hs_types.specs.Names.{Names}
+use Rattle.hs_plain.specs.Plan.{rest_below}
 use Rattle.hs_plain.specs.Tree.{same_path}
 
 abbrev pub Sight : Type 0 → Type 0
 Sight X = Names → Option X
 
--- the names from a path down to another one at it or below it
-abbrev pub rest_down : Names → Names → Option Names
-rest_down [] path = Some path
-rest_down (name ∷ above) [] = None
-rest_down (name ∷ above) (other ∷ path) = if bytes_eq name other then rest_down above path else None
-
 abbrev pub is_at_or_below : Names → Names → Bool
-is_at_or_below above path = is_some (rest_down above path)
+is_at_or_below above path = is_some (rest_below above path)
 
 -- whether a path is one of these, or below one
 abbrev pub hits : List Names → Names → Bool
@@ -25,14 +20,14 @@ inside_or None inside outside = outside
 inside_or (Some rest) inside outside = inside rest
 
 abbrev pub moved_sight : {X : Type 0} → Sight X → Names → Names → Sight X
-moved_sight sight old new path = inside_or (rest_down new path) (λ rest. sight (old ++ rest)) (inside_or (rest_down old path) (λ rest. None) (sight path))
+moved_sight sight old new path = inside_or (rest_below new path) (λ rest. sight (old ++ rest)) (inside_or (rest_below old path) (λ rest. None) (sight path))
 
 abbrev pub at_top : {X : Type 0} → X → Option X → Sight X
 at_top node below [] = Some node
 at_top node below (name ∷ names) = below
 
 abbrev pub made_sight : {X : Type 0} → Sight X → Names → X → Sight X
-made_sight sight at node path = inside_or (rest_down at path) (at_top node (sight path)) (sight path)
+made_sight sight at node path = inside_or (rest_below at path) (at_top node (sight path)) (sight path)
 
 -- nothing, where a test holds
 abbrev pub unless : {X : Type 0} → Bool → Option X → Option X
@@ -67,11 +62,11 @@ Pairwise R (x ∷ xs) = Each (R x) xs × Pairwise R xs
 
 -- no path is at or below an earlier one
 abbrev pub NoneBelow : List Names → Type 0
-NoneBelow paths = Pairwise (λ path later. rest_down path later ≡ None) paths
+NoneBelow paths = Pairwise (λ path later. rest_below path later ≡ None) paths
 
 -- no path is at or below a later one
 abbrev pub Rises : List Names → Type 0
-Rises paths = Pairwise (λ path later. rest_down later path ≡ None) paths
+Rises paths = Pairwise (λ path later. rest_below later path ≡ None) paths
 
 -- neither the root nor in a directory right below it
 abbrev pub IsOutside : List ℕ → Names → Type 0
@@ -177,12 +172,12 @@ NumberOnce (New node above name ∷ puts) = NumberOnce puts
 -- what later puts cut off below an earlier one's target is what all puts do, and none comes above it
 abbrev pub IsLinked : {X : Type 0} → (Names → Bool) → List (Placing X) → Type 0
 IsLinked is_put [] = Unit {0}
-IsLinked is_put (put ∷ puts) = Each (λ later. rest_down later (target put) ≡ None) (targets puts)
+IsLinked is_put (put ∷ puts) = Each (λ later. rest_below later (target put) ≡ None) (targets puts)
     × ((r : Names) → hits (targets puts) (target put ++ r) ≡ cuts (λ x. is_put (target put ++ x)) r) × IsLinked is_put puts
 
 -- outside of tmp stands what the other tree has, but for what is still to be put
 abbrev pub Stands : {X : Type 0} → (X → X → Type 0) → Sight X → List ℕ → Sight X → List Names → Type 0
-Stands Alike to tmp sight paths = (q : Names) → rest_down (tmp ∷ []) q ≡ None → Both Alike (sight q) (unless (hits paths q) (to q))
+Stands Alike to tmp sight paths = (q : Names) → rest_below (tmp ∷ []) q ≡ None → Both Alike (sight q) (unless (hits paths q) (to q))
 
 -- a node stands below directories alone
 abbrev pub HasDirs : {X : Type 0} → (X → Bool) → Sight X → Type 0
