@@ -8,12 +8,12 @@ ghost use Rattle.hs_types.specs.declared.call.Call.TheVariants as calls;
 ghost use Rattle.hs_types.specs.declared.reply.Reply.TheVariants.{Refused};
 ghost use Rattle.hs_plain.specs.Served.{is_served};
 ghost use Rattle.run_output.specs.CallText.{create_word, delete_word, call_text};
-ghost use Rattle.run_output.specs.Text.{side_word, kind_word, more_or_end, reply_text, item_text, snap_text, dir_text, letter, relative, line_text, further_lines, reply_line, answered_lines, item_lines, heading, log_lines, marked, entry_line, journal_lines, node_name, dir_line, file_line, node_line, tree_lines, text_of};
+ghost use Rattle.run_output.specs.Text.{side_word, kind_word, more_or_end, reply_text, item_text, snap_text, dir_text, letter, relative, target_text, line_text, further_lines, reply_line, answered_lines, item_lines, heading, log_lines, marked, entry_line, journal_lines, node_name, dir_line, file_line, node_line, tree_lines, text_of};
 
 use crate::ran::{ClientLog, LogItem, LogWhat, Ran};
 use hs_types::{
     Answered, Call, DirItem, Entry, EntryKind, Item, Line, LineKind, List, Mode, Name, NoMemory,
-    Place, ReadCursor, ReadLen, Refusal, Reply, Side, SnapItem, TreeLine,
+    Place, ReadCursor, ReadLen, Refusal, RelPath, Reply, Side, SnapItem, TreeLine,
 };
 use percent_encoding::{
     AsciiSet, CONTROLS, PercentEncode, ascii_set, percent_encode, utf8_percent_encode,
@@ -260,12 +260,22 @@ fn write_line(out: &mut String, line: &Line) -> Result<(), NoMemory>
     let letter = letter(line.kind);
     write!(out, "  {letter} ")?;
     write_relative(out, line.path.items())?;
-    if let Some(to) = &line.to {
-        out.push_str(" -> ")?;
-        write_relative(out, to.items())?;
-    }
+    write_target(out, &line.to)?;
     out.push_str("\n")?;
     Ok(())
+}
+
+/// Where a renamed item stands.
+fn write_target(out: &mut String, to: &Option<RelPath>) -> Result<(), NoMemory>
+    ensures { OnOk result (string_bytes out.new ≡ string_bytes out.old ++ target_text to.now) }
+{
+    match to {
+        Some(path) => {
+            out.push_str(" -> ")?;
+            write_relative(out, path.items())
+        }
+        None => Ok(()),
+    }
 }
 
 /// A path from the directory of a report.

@@ -1,3 +1,15 @@
+pub mod Asked
 pub mod Both
+pub mod Clients
+pub mod Commands
+pub mod Ends
+pub mod Faultless
+pub mod Lines
 pub mod Linked
-pub mod Serial
+pub mod Numbers
+pub mod Order
+pub mod PageCalls
+pub mod Served
+pub mod Small
+pub mod TurnedRuns
+pub mod WholeRuns

@@ -207,7 +207,6 @@ linked_wait tells c old number (made m ∷ steps) new more foreign linked = (
   linked.0,
   record {
     entry = linked.1.entry;
-   
     by = linked.1.by;
     caller_is = linked.1.caller_is;
     seq_is = linked.1.seq_is;

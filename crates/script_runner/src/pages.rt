@@ -64,13 +64,16 @@ fn behind(page: PageSize, reply: &Reply) -> Result<Option<Call>, NoMemory>
 {
     match reply {
         Reply::Bytes {
-            next: Some(cursor), ..
+            next: Some(cursor),
+            ..
         } => Ok(Some(read_next(cursor.place, cursor.offset))),
         Reply::Page {
-            next: Some(cursor), ..
+            next: Some(cursor),
+            ..
         } => Ok(Some(list_next(page, cursor)?)),
         Reply::Report {
-            next: Some(cursor), ..
+            next: Some(cursor),
+            ..
         } => Ok(Some(Call::ReportNext {
             cursor: *cursor,
             size: page,
