@@ -7,7 +7,7 @@ use Rattle.hs_types.specs.declared.ids.Side.TheVariants.{Source, Target}
 use Rattle.hs_types.specs.declared.journal.Entry.{Entry}
 use Rattle.hs_types.specs.declared.reply.Answered.{Answered}
 use Rattle.hs_types.specs.Limits.{journal_limit}
-use Rattle.hs_plain.specs.Legal.{Said, IsLegalCall, numbers_rise}
+use Rattle.hs_plain.specs.Legal.{Said, IsLegalCall}
 use Rattle.hs_plain.specs.Replay.{plain_after, is_proper}
 use Rattle.hs_plain.specs.Lines.{tree_lines}
 use Rattle.script_text.specs.declared.script.ScriptLine.{ScriptLine}
@@ -20,7 +20,7 @@ use Rattle.run_output.specs.declared.ran.LogItem.{LogItem}
 use Rattle.run_output.specs.declared.ran.LogWhat.{LogWhat}
 use Rattle.run_output.specs.declared.ran.LogWhat.TheVariants.{Replies, NoCursor}
 use Rattle.run_output.specs.Calls.{none_kept, side_of}
-use Rattle.run_output.specs.Steps.{Sections, LineRun, AreCalls, kept_after, Made, Step, steps_to, in_order, said_in, made_in, rises, in_turn, reached, all_reached, places_of, left_at}
+use Rattle.run_output.specs.Steps.{Sections, LineRun, AreCalls, kept_after, Made, Step, steps_to, in_order, said_in, made_in, are_counted, rises, in_turn, reached, all_reached, places_of, left_at}
 
 -- ---- lines and logs
 
@@ -87,7 +87,8 @@ pub record IsMade (journal : List Entry) (c : ℕ) (made : Made) : Type 0 where
 -- a caller's replies are legal, and its entries in the journal are those of its steps, in order
 pub record AreLegal (tells : Bool) (journal : List Entry) (c : ℕ) (steps : List Step) : Type 0 where
   pub each : AllByRecursion (IsLegal tells journal c) (filter_map said_in steps)
-  pub numbers : numbers_rise 0 (filter_map said_in steps) ≡ true
+  -- its calls are counted from 1
+  pub numbers : are_counted 0 steps ≡ true
   pub made_each : AllByRecursion (IsMade journal c) (filter_map made_in steps)
   pub entries : places_of c 0 journal ≡ filter_map left_at steps
 
@@ -101,6 +102,7 @@ AreClients tells journal c (client ∷ more) = AreLegal tells journal c client �
 -- the one history of a namenode
 pub record IsSide (tells : Bool) (journal : List Entry) (steps : Sections Step) : Type 0 where
   pub proper : is_proper journal ≡ true
+  pub few : length journal ≤ journal_limit
   -- setup and finish are the work of caller 0
   pub caller_0 : AreLegal tells journal 0 (steps.setup ++ steps.finish)
   pub callers : AreClients tells journal 1 steps.clients

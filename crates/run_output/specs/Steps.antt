@@ -1,5 +1,5 @@
 -- What happens on each namenode in a run, step by step.
-use Rattle.std.specs.Prelude.{◌≡◌, ℕ, ◌+◌, max, Bool, true, false, ◌&&◌, ◌==◌, nat_le, if◌then◌else◌, List, [], ◌∷◌, ◌++◌, map, Option, Some, None, ⊤}
+use Rattle.std.specs.Prelude.{◌≡◌, ℕ, ◌+◌, ◌-◌, ◌^◌, min, max, Bool, true, false, ◌&&◌, ◌||◌, ◌==◌, nat_le, nat_lt, if◌then◌else◌, List, [], ◌∷◌, ◌++◌, map, Option, Some, None, ⊤}
 use Rattle.std.specs.List.{flat_map}
 use Rattle.hs_types.specs.declared.ids.Side.{Side}
 use Rattle.hs_types.specs.declared.journal.Entry.{Entry}
@@ -68,6 +68,18 @@ said_in (made entry) = None
 abbrev pub made_in : Step → Option Made
 made_in (printed said) = None
 made_in (made entry) = Some entry
+
+-- ---- numbers
+
+-- the numbers of entries rise; the last number of a u64 is shared
+abbrev pub number_rises : ℕ → ℕ → Bool
+number_rises before seq = nat_lt before seq || (before == 2 ^ 64 - 1 && seq == 2 ^ 64 - 1)
+
+-- the calls are counted one by one, to the last number of a u64
+abbrev pub are_counted : ℕ → List Step → Bool
+are_counted before [] = true
+are_counted before (printed said ∷ more) = said.seq == min (before + 1) (2 ^ 64 - 1) && are_counted said.seq more
+are_counted before (made entry ∷ more) = number_rises before entry.seq && are_counted entry.seq more
 
 -- ---- places
 

@@ -88,13 +88,13 @@ abbrev pub relative : Names → List ℕ
 relative names = codes "." ++ flat_map (λ name. codes "/" ++ escaped name) names
 
 -- where a renamed item stands
-abbrev pub target_text : Option Names → List ℕ
-target_text None = []
-target_text (Some path) = codes " -> " ++ relative path
+abbrev pub target_text : LineKind → Option Names → List ℕ
+target_text kinds.Renamed (Some path) = codes " -> " ++ relative path
+target_text kind to = []
 
 -- a line of a report
 abbrev pub line_text : Line → List ℕ
-line_text line = spaced (letter line.kind ∷ relative line.path ∷ []) ++ target_text line.to
+line_text line = spaced (letter line.kind ∷ relative line.path ∷ []) ++ target_text line.kind line.to
 
 -- what a reply lists, a line each
 abbrev pub further_lines : Reply → List (List ℕ)

@@ -260,21 +260,25 @@ fn write_line(out: &mut String, line: &Line) -> Result<(), NoMemory>
     let letter = letter(line.kind);
     write!(out, "  {letter} ")?;
     write_relative(out, line.path.items())?;
-    write_target(out, &line.to)?;
+    write_target(out, line.kind, &line.to)?;
     out.push_str("\n")?;
     Ok(())
 }
 
 /// Where a renamed item stands.
-fn write_target(out: &mut String, to: &Option<RelPath>) -> Result<(), NoMemory>
-    ensures { OnOk result (string_bytes out.new ≡ string_bytes out.old ++ target_text to.now) }
+fn write_target(
+    out: &mut String,
+    kind: LineKind,
+    to: &Option<RelPath>,
+) -> Result<(), NoMemory>
+    ensures { OnOk result (string_bytes out.new ≡ string_bytes out.old ++ target_text kind to.now) }
 {
-    match to {
-        Some(path) => {
+    match (kind, to) {
+        (LineKind::Renamed, Some(path)) => {
             out.push_str(" -> ")?;
             write_relative(out, path.items())
         }
-        None => Ok(()),
+        _ => Ok(()),
     }
 }
 

@@ -28,7 +28,7 @@ source_ran st tt c source target new_source from other last command is replies r
     record {
       said = ran.said;
       calls = ran.calls;
-      made = subst (λ at. IsSideRun st tt c old at ran.said new) (sym is) (ran.made, refl, omega arith);
+      made = subst (λ at. IsSideRun st tt c old at ran.said new) (sym is) (ran.made, refl, refl);
       replies_are = ran.replies_are;
       few_source = ran.few;
       few_target = omega arith;
@@ -43,7 +43,7 @@ target_ran st tt c source target new_target from other last command is replies r
     record {
       said = ran.said;
       calls = ran.calls;
-      made = subst (λ at. IsSideRun st tt c old at ran.said new) (sym is) (ran.made, refl, omega arith);
+      made = subst (λ at. IsSideRun st tt c old at ran.said new) (sym is) (ran.made, refl, refl);
       replies_are = ran.replies_are;
       few_source = omega arith;
       few_target = ran.few;

@@ -6,7 +6,6 @@ pub mod Ends
 pub mod Faultless
 pub mod Lines
 pub mod Linked
-pub mod Numbers
 pub mod Order
 pub mod PageCalls
 pub mod Served

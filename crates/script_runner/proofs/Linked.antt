@@ -8,10 +8,10 @@ use Rattle.std.proofs.lemmas.List.Elements.{filter-append}
 use Rattle.hs_types.specs.declared.journal.Entry.{Entry}
 use Rattle.hs_plain.specs.Answer.{answer, claimed, is_ok_reply}
 use Rattle.hs_plain.specs.Replay.{plain_after}
-use Rattle.hs_plain.specs.Legal.{Said, entry_of, leaves_entry, reach_of, numbers_rise}
-use Rattle.run_output.specs.Steps.{Sections, Made, Step, printed, made, said_in, made_in, rises, reached, all_reached, places_of, left_at}
+use Rattle.hs_plain.specs.Legal.{Said, entry_of, leaves_entry, reach_of}
+use Rattle.run_output.specs.Steps.{Sections, Made, Step, printed, made, said_in, made_in, are_counted, rises, reached, all_reached, places_of, left_at}
 use Rattle.run_output.specs.Run.{caller, IsLegal, IsMade, AreLegal, AreClients, IsSide}
-use Rattle.script_runner.specs.Links.{is_of, own, number_rises, IsMadeBy, IsCalled, AreLinked, last_number, AreClientsMet, AreMet}
+use Rattle.script_runner.specs.Links.{is_of, own, IsMadeBy, IsCalled, AreLinked, last_number, AreClientsMet, AreMet}
 use Rattle.script_runner.proofs.Both.{both_first, both_second}
 
 -- ---- legal stays legal as the journal grows
@@ -165,25 +165,10 @@ linked_made tells c old number (made m ∷ steps) new linked =
       linked_made tells c linked.0 m.seq steps new linked.2,
     )
 
-pub number_less : (before between seq : ℕ) → before ≤ between → number_rises between seq ≡ true → number_rises before seq ≡ true
-number_less before between seq le rise = grind (arith, nat_tests)
-
-pub number_above : (before seq : ℕ) → number_rises before seq ≡ true → before ≤ seq
-number_above before seq rise = grind (arith, nat_tests)
-
-pub linked_less : (tells : Bool) (c : ℕ) (old : List Entry) (less number : ℕ) (steps : List Step) (new : List Entry) → less ≤ number → AreLinked tells c old number steps new → AreLinked tells c old less steps new
-linked_less tells c old less number [] new le linked = linked
-linked_less tells c old less number (made m ∷ steps) new le linked = (linked.0, record { others = linked.1.others; foreign = linked.1.foreign; entry = linked.1.entry; by = linked.1.by; caller_is = linked.1.caller_is; seq_is = linked.1.seq_is; grows = linked.1.grows; place = linked.1.place; counted = number_less less number m.seq le linked.1.counted }, linked.2)
-linked_less tells c old less number (printed said ∷ steps) new le linked = (linked.0, record { others = linked.1.others; foreign = linked.1.foreign; grows = linked.1.grows; place = linked.1.place; legal = linked.1.legal; counted = number_less less number said.seq le linked.1.counted }, linked.2)
-
-numbers_less : (less number : ℕ) (said : List Said) → less ≤ number → numbers_rise number said ≡ true → numbers_rise less said ≡ true
-numbers_less less number [] le rise = refl
-numbers_less less number (s ∷ said) le rise = and_true _ _ (number_less less number s.seq le (both_first _ _ rise)) (both_second (number_rises number s.seq) _ rise)
-
-pub linked_numbers : (tells : Bool) (c : ℕ) (old : List Entry) (number : ℕ) (steps : List Step) (new : List Entry) → AreLinked tells c old number steps new → numbers_rise number (filter_map said_in steps) ≡ true
+pub linked_numbers : (tells : Bool) (c : ℕ) (old : List Entry) (number : ℕ) (steps : List Step) (new : List Entry) → AreLinked tells c old number steps new → are_counted number steps ≡ true
 linked_numbers tells c old number [] new linked = refl
-linked_numbers tells c old number (made m ∷ steps) new linked = numbers_less number m.seq (filter_map said_in steps) (number_above number m.seq linked.1.counted) (linked_numbers tells c linked.0 m.seq steps new linked.2)
-linked_numbers tells c old number (printed said ∷ steps) new linked = and_true _ _ linked.1.counted (linked_numbers tells c linked.0 said.seq steps new linked.2)
+linked_numbers tells c old number (made m ∷ steps) new linked = and_true _ _ linked.1.counted (linked_numbers tells c linked.0 m.seq steps new linked.2)
+linked_numbers tells c old number (printed said ∷ steps) new linked = and_true _ _ (ap (λ n. said.seq == n) (sym linked.1.counted) ∙ same_number said.seq) (linked_numbers tells c linked.0 said.seq steps new linked.2)
 
 le_so : (a b : ℕ) → a ≤ b → nat_le a b ≡ true
 le_so a b e = grind (arith, nat_tests)
@@ -275,6 +260,7 @@ met_side tells journal steps met =
     let clients_rise : (list_all (rises (reached 0 steps.setup)) steps.clients ≡ true) × (all_reached (reached 0 steps.setup) steps.clients ≤ length met.ended) = clients_rise tells met.begun met.ended journal 1 (reached 0 steps.setup) steps.clients setup_rises.1 long met.clients in
     record {
       proper = met.proper;
+      few = met.few;
       caller_0 = record {
         each = linked_legal tells 0 [] 0 (steps.setup ++ steps.finish) journal all_0;
         numbers = linked_numbers tells 0 [] 0 (steps.setup ++ steps.finish) journal all_0;

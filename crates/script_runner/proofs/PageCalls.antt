@@ -1,5 +1,5 @@
 -- Calls for pages, one after the other.
-use Rattle.std.proofs.Common.{◌≡◌, ℕ, ◌+◌, ◌^◌, ◌<◌, ◌≤◌, Bool, true, false, cond, ◌||◌, ◌&&◌, ◌==◌, Option, Some, None, List, [], ◌∷◌, ◌++◌, map, length, take, refl, ap, sym, ◌∙◌, subst, length-append, arith}
+use Rattle.std.proofs.Common.{◌≡◌, ℕ, ◌+◌, ◌^◌, ◌<◌, ◌≤◌, ◌-◌, min, Bool, true, false, cond, ◌||◌, ◌&&◌, ◌==◌, Option, Some, None, List, [], ◌∷◌, ◌++◌, map, length, take, refl, ap, sym, ◌∙◌, subst, length-append, arith}
 use Rattle.std.proofs.lemmas.List.{map-append}
 use Rattle.std.proofs.Math.Seq.{take-append_seam}
 use Rattle.hs_types.specs.declared.call.Call.{Call}
@@ -15,7 +15,7 @@ use Rattle.script_runner.specs.Links.{own}
 use Rattle.script_runner.specs.InTurn.{IsNext, AreNext}
 use Rattle.script_runner.specs.Pages.{has_greatest_page, IsGreatest, IsWithin, AreAllPagesTo, entries_with, ArePagesTo, AreRun}
 use Rattle.script_runner.proofs.Ends.{answer_greatest, change_ends, answer_falls, left, left_of, left_some}
-use Rattle.script_runner.proofs.Linked.{own-long, number_less, number_above}
+use Rattle.script_runner.proofs.Linked.{own-long}
 use Rattle.script_runner.proofs.Small.{journal_small}
 
 -- ---- what is claimed of a reply has its cursor
@@ -134,10 +134,10 @@ next_push tells c old number [] now here new s made call = (
     grows = call.grows ∙ ap (λ (xs : List Entry). xs ++ own c s) (sym made.0);
     place = call.place ∙ ap length (sym made.0);
     legal = call.legal;
-    counted = number_less number here s.seq made.1 call.counted;
+    counted = call.counted ∙ ap (λ n. min (n + 1) (2 ^ 64 - 1)) (sym made.1);
   },
   refl,
-  omega arith,
+  refl,
 )
 next_push tells c old number (t ∷ said) now here new s made call = (made.0, made.1, next_push tells c made.0 t.seq said now here new s made.2 call)
 
@@ -152,7 +152,7 @@ pages-end first (t ∷ said) next none pages = (pages.0, pages-end (behind 1000 
 -- ---- the loop over pages
 
 pub pages_begin : (tells : Bool) (c : ℕ) (old : List Entry) (number : ℕ) (first : Call) → has_greatest_page first ≡ true → ArePagesTo tells c old number old number first [] (Some first)
-pages_begin tells c old number first greatest = record { said = []; pages = refl; made = (refl, omega arith); replies_are = refl; few = omega arith; greatest = greatest }
+pages_begin tells c old number first greatest = record { said = []; pages = refl; made = (refl, refl); replies_are = refl; few = omega arith; greatest = greatest }
 
 -- so far no entry was left, where a call comes next
 short_so_far : (next : Option Call) (call : Call) (now old : ℕ) → next ≡ Some call → now ≤ entries_with next old → now ≤ old

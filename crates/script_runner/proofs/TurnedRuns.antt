@@ -7,6 +7,7 @@ use Rattle.std.proofs.lemmas.List.Elements.{filter-append}
 use Rattle.hs_types.specs.declared.ids.Side.{Side}
 use Rattle.hs_types.specs.declared.ids.Side.TheVariants.{Source, Target}
 use Rattle.hs_types.specs.declared.journal.Entry.{Entry}
+use Rattle.hs_types.specs.Limits.{journal_limit}
 use Rattle.hs_plain.specs.Legal.{Said, entry_of, leaves_entry, reach_of}
 use Rattle.hs_plain.specs.Replay.{is_proper}
 use Rattle.run_output.specs.Calls.{side_of}
@@ -15,12 +16,12 @@ use Rattle.run_output.specs.Run.{caller, IsSide, IsInTurn}
 use Rattle.script_runner.specs.Links.{is_of, own, AreLinked, last_number, AreClientsMet, AreMet}
 use Rattle.script_runner.specs.InTurn.{IsNext, AreNext, World, IsSideRun, AreLinesRun, uncounted, AreClientsRun, fresh, IsSerial}
 use Rattle.script_runner.proofs.Both.{both_first, both_second}
-use Rattle.script_runner.proofs.Linked.{own-long, linked_wait, linked_less, number_less, number_above, places-append, places_none, met_side}
+use Rattle.script_runner.proofs.Linked.{own-long, linked_wait, places-append, places_none, met_side}
 
 -- ---- calls on one side, each at the end of the journal
 
 abbrev pub Turned : Bool → ℕ → List Entry → ℕ → List Step → List Entry → ℕ → Type 0
-Turned tells c old number [] new last = (old ≡ new) × (number ≤ last)
+Turned tells c old number [] new last = (old ≡ new) × (number ≡ last)
 Turned tells c old number (printed said ∷ more) new last = (seen : List Entry) × IsNext tells c old number seen said × Turned tells c seen said.seq more new last
 Turned tells c old number (made m ∷ more) new last = ⊥
 
@@ -28,20 +29,11 @@ turned_said : (tells : Bool) (c : ℕ) (old : List Entry) (number : ℕ) (said :
 turned_said tells c old number [] new last next = next
 turned_said tells c old number (s ∷ said) new last next = (next.0, next.1, turned_said tells c next.0 s.seq said new last next.2)
 
-turned_less : (tells : Bool) (c : ℕ) (old : List Entry) (less number : ℕ) (steps : List Step) (new : List Entry) (last : ℕ) → less ≤ number → Turned tells c old number steps new last → Turned tells c old less steps new last
-turned_less tells c old less number [] new last le turned = (turned.0, omega (arith, le, turned.1))
-turned_less tells c old less number (made m ∷ steps) new last le turned = absurd turned
-turned_less tells c old less number (printed s ∷ steps) new last le turned =
-    (turned.0, record { grows = turned.1.grows; place = turned.1.place; legal = turned.1.legal; counted = number_less less number s.seq le turned.1.counted }, turned.2)
-
 turned_append : (tells : Bool) (c : ℕ) (old : List Entry) (number : ℕ) (steps more : List Step) (now : List Entry) (here : ℕ) (new : List Entry) (last : ℕ) → Turned tells c old number steps now here → Turned tells c now here more new last → Turned tells c old number (steps ++ more) new last
 turned_append tells c old number [] more now here new last turned next =
-    subst (λ (j : List Entry). Turned tells c j number more new last) (sym turned.0) (turned_less tells c now number here more new last turned.1 next)
+    subst (λ (j : List Entry). Turned tells c j number more new last) (sym turned.0) (subst (λ n. Turned tells c now n more new last) (sym turned.1) next)
 turned_append tells c old number (made m ∷ steps) more now here new last turned next = absurd turned
 turned_append tells c old number (printed s ∷ steps) more now here new last turned next = (turned.0, turned.1, turned_append tells c turned.0 s.seq steps more now here new last turned.2 next)
-
-le_of : {a b : ℕ} → a ≡ b → a ≤ b
-le_of e = omega (arith, e)
 
 -- by induction over the commands
 source_step : (st tt : Bool) (c : ℕ) (old : World) (at : Option Side) (said : List Said) (now : World) → IsSideRun st tt c old at said now → Turned st c old.source old.source_calls (cond (goes_to Source at) (map printed said) []) now.source now.source_calls
@@ -55,13 +47,13 @@ target_step st tt c old (Some Source) said now run = (run.1, run.2)
 target_step st tt c old (Some Target) said now run = turned_said tt c old.target old.target_calls said now.target now.target_calls run.0
 
 source_turned : (st tt : Bool) (c : ℕ) (old : World) (runs : List LineRun) (new : World) → AreLinesRun st tt c old runs new → Turned st c old.source old.source_calls (steps_on Source runs) new.source new.source_calls
-source_turned st tt c old [] new ran = (ap (λ (w : World). w.source) ran, le_of (ap (λ (w : World). w.source_calls) ran))
+source_turned st tt c old [] new ran = (ap (λ (w : World). w.source) ran, ap (λ (w : World). w.source_calls) ran)
 source_turned st tt c old (run ∷ runs) new ran =
     turned_append st c old.source old.source_calls (steps_of Source run) (steps_on Source runs) ran.0.source ran.0.source_calls new.source new.source_calls
     (source_step st tt c old (side_of run.line.command) run.said ran.0 ran.1) (source_turned st tt c ran.0 runs new ran.2)
 
 target_turned : (st tt : Bool) (c : ℕ) (old : World) (runs : List LineRun) (new : World) → AreLinesRun st tt c old runs new → Turned tt c old.target old.target_calls (steps_on Target runs) new.target new.target_calls
-target_turned st tt c old [] new ran = (ap (λ (w : World). w.target) ran, le_of (ap (λ (w : World). w.target_calls) ran))
+target_turned st tt c old [] new ran = (ap (λ (w : World). w.target) ran, ap (λ (w : World). w.target_calls) ran)
 target_turned st tt c old (run ∷ runs) new ran =
     turned_append tt c old.target old.target_calls (steps_of Target run) (steps_on Target runs) ran.0.target ran.0.target_calls new.target new.target_calls
     (target_step st tt c old (side_of run.line.command) run.said ran.0 ran.1) (target_turned st tt c ran.0 runs new ran.2)
@@ -152,7 +144,7 @@ turned_linked tells c old number (printed s ∷ steps) new last turned = (
   turned_linked tells c turned.0 s.seq steps new last turned.2,
 )
 
-turned_last : (tells : Bool) (c : ℕ) (old : List Entry) (number : ℕ) (steps : List Step) (new : List Entry) (last : ℕ) → Turned tells c old number steps new last → last_number number steps ≤ last
+turned_last : (tells : Bool) (c : ℕ) (old : List Entry) (number : ℕ) (steps : List Step) (new : List Entry) (last : ℕ) → Turned tells c old number steps new last → last_number number steps ≡ last
 turned_last tells c old number [] new last turned = turned.1
 turned_last tells c old number (made m ∷ steps) new last turned = absurd turned
 turned_last tells c old number (printed s ∷ steps) new last turned = turned_last tells c turned.0 s.seq steps new last turned.2
@@ -211,8 +203,8 @@ record TurnedSide (tells : Bool) (steps : Sections Step) (journal : List Entry) 
   clients : TurnedClients tells 1 begun steps.clients ended
   finish : Turned tells 0 ended number steps.finish journal last
 
-turned_met : (tells : Bool) (steps : Sections Step) (journal : List Entry) → is_proper journal ≡ true → TurnedSide tells steps journal → AreMet tells journal steps
-turned_met tells steps journal proper turned =
+turned_met : (tells : Bool) (steps : Sections Step) (journal : List Entry) → is_proper journal ≡ true → length journal ≤ journal_limit → TurnedSide tells steps journal → AreMet tells journal steps
+turned_met tells steps journal proper few turned =
     let first : (own : List Entry) × (turned.begun ≡ own) × (list_all (by_caller (λ n. n == 0)) own ≡ true) = turned_rest tells 0 [] 0 steps.setup turned.begun turned.number turned.setup in
     let middle : (others : List Entry) × (turned.ended ≡ turned.begun ++ others) × (list_all (by_caller (within 1 (1 + length steps.clients))) others ≡ true) = clients_rest tells 1 turned.begun steps.clients turned.ended turned.clients in
     let last : (own : List Entry) × (journal ≡ turned.ended ++ own) × (list_all (by_caller (λ n. n == 0)) own ≡ true) = turned_rest tells 0 turned.ended turned.number steps.finish journal turned.last turned.finish in
@@ -221,12 +213,13 @@ turned_met tells steps journal proper turned =
       begun = turned.begun;
       ended = turned.ended;
       proper = proper;
+      few = few;
       setup = turned_linked tells 0 [] 0 steps.setup turned.begun turned.number turned.setup;
       clients =
           subst (λ (j : List Entry). AreClientsMet tells turned.begun turned.ended j 1 steps.clients) (sym last.1)
           (clients_met tells turned.begun [] turned.begun turned.ended last.0 1 steps.clients (omega arith) (sym (append-nil turned.begun)) zeros refl last.2 turned.clients);
       meeting = (middle.0, middle.1, none_of 0 (within 1 (1 + length steps.clients)) middle.0 (λ n e. above n (length steps.clients) e) middle.2);
-      finish = linked_less tells 0 turned.ended (last_number 0 steps.setup) turned.number steps.finish journal (turned_last tells 0 [] 0 steps.setup turned.begun turned.number turned.setup) (turned_linked tells 0 turned.ended turned.number steps.finish journal turned.last turned.finish);
+      finish = subst (λ n. AreLinked tells 0 turned.ended n steps.finish journal) (sym (turned_last tells 0 [] 0 steps.setup turned.begun turned.number turned.setup)) (turned_linked tells 0 turned.ended turned.number steps.finish journal turned.last turned.finish);
       alone =
           ap (list_all (by_caller (λ n. nat_lt n (length steps.clients + 1)))) (last.1 ∙ ap (λ (xs : List Entry). xs ++ last.0) middle.1)
           ∙ all_both (λ n. nat_lt n (length steps.clients + 1)) (turned.begun ++ middle.0) last.0
@@ -309,11 +302,11 @@ target_side st tt runs source target serial =
       finish = subst (λ (j : List Entry). Turned tt 0 serial.ended.target serial.begun.target_calls (steps_on Target runs.finish) j serial.last.target_calls) serial.target_is (target_turned st tt 0 _ runs.finish serial.last serial.finish);
     }
 
-pub serial_source : (st tt : Bool) (runs : Sections LineRun) (source target : List Entry) → is_proper source ≡ true → IsSerial st tt runs source target → IsSide st source (steps_to Source runs)
-serial_source st tt runs source target proper serial = met_side st source (steps_to Source runs) (turned_met st (steps_to Source runs) source proper (source_side st tt runs source target serial))
+pub serial_source : (st tt : Bool) (runs : Sections LineRun) (source target : List Entry) → is_proper source ≡ true → length source ≤ journal_limit → IsSerial st tt runs source target → IsSide st source (steps_to Source runs)
+serial_source st tt runs source target proper few serial = met_side st source (steps_to Source runs) (turned_met st (steps_to Source runs) source proper few (source_side st tt runs source target serial))
 
-pub serial_target : (st tt : Bool) (runs : Sections LineRun) (source target : List Entry) → is_proper target ≡ true → IsSerial st tt runs source target → IsSide tt target (steps_to Target runs)
-serial_target st tt runs source target proper serial = met_side tt target (steps_to Target runs) (turned_met tt (steps_to Target runs) target proper (target_side st tt runs source target serial))
+pub serial_target : (st tt : Bool) (runs : Sections LineRun) (source target : List Entry) → is_proper target ≡ true → length target ≤ journal_limit → IsSerial st tt runs source target → IsSide tt target (steps_to Target runs)
+serial_target st tt runs source target proper few serial = met_side tt target (steps_to Target runs) (turned_met tt (steps_to Target runs) target proper few (target_side st tt runs source target serial))
 
 pub serial_turn : (st tt : Bool) (runs : Sections LineRun) (source target : List Entry) → IsSerial st tt runs source target → IsInTurn runs
 serial_turn st tt runs source target serial =

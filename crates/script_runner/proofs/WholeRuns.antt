@@ -30,10 +30,10 @@ pub sections_ran : (st tt told_s told_t late_s late_t : Bool) (clients c d from_
     IsSectionRun st tt c sections.Setup fresh (record { source = bs; target = bt; source_calls = from_s; target_calls = from_t }) script rest setup →
     AreClientsTo told_s told_t clients bs bt es et rest left first logs →
     IsSectionRun late_s late_t d sections.Finish (record { source = es; target = et; source_calls = from_s; target_calls = from_t }) (record { source = ls; target = lt; source_calls = to_s; target_calls = to_t }) left after finish →
-    after ≡ [] → first ≡ setup_log ∷ [] → all ≡ logs ++ finish_log ∷ [] →
+    length ls ≤ 1000 → length lt ≤ 1000 → after ≡ [] → first ≡ setup_log ∷ [] → all ≡ logs ++ finish_log ∷ [] →
     setup_log ≡ record { section = sections.Setup; items = setup } → finish_log ≡ record { section = sections.Finish; items = finish } →
     AreSectionsRun st tt clients script ls lt all
-sections_ran st tt told_s told_t late_s late_t clients c d from_s from_t to_s to_t bs bt es et ls lt script rest left after setup finish setup_log finish_log first logs all same_s same_t also_s also_t zero zero_too front middle back none begins ends setup_is finish_is =
+sections_ran st tt told_s told_t late_s late_t clients c d from_s from_t to_s to_t bs bt es et ls lt script rest left after setup finish setup_log finish_log first logs all same_s same_t also_s also_t zero zero_too front middle back few_source few_target none begins ends setup_is finish_is =
     let begun : World = record { source = bs; target = bt; source_calls = from_s; target_calls = from_t } in
     let resumed : World = record { source = es; target = et; source_calls = from_s; target_calls = from_t } in
     let last : World = record { source = ls; target = lt; source_calls = to_s; target_calls = to_t } in
@@ -56,6 +56,8 @@ sections_ran st tt told_s told_t late_s late_t clients c d from_s from_t to_s to
       setup_calls = front.calls;
       client_calls = middle.calls;
       finish_calls = back.calls;
+      few_source = few_source;
+      few_target = few_target;
       serial = record {
         begun = begun;
         ended = unnumbered es et;
@@ -95,8 +97,8 @@ whole_run told_s told_t st tt page clients lines script made_s made_t source tar
         setup_calls = ran.setup_calls none_kept;
         client_calls = calls_of_each ran.runs.clients ran.client_calls;
         finish_calls = ran.finish_calls (kept_after 1000 none_kept ran.runs.setup);
-        source = serial_source told_s told_t ran.runs made_s made_t proper_s ran.serial;
-        target = serial_target told_s told_t ran.runs made_s made_t proper_t ran.serial;
+        source = serial_source told_s told_t ran.runs made_s made_t proper_s (omega (arith, ran.few_source)) ran.serial;
+        target = serial_target told_s told_t ran.runs made_s made_t proper_t (omega (arith, ran.few_target)) ran.serial;
         source_end = shown_s;
         target_end = shown_t;
       };

@@ -1,11 +1,12 @@
 -- What only proofs use: what links to a namenode promise, and a run whose calls were made through them.
-use Rattle.std.specs.Prelude.{◌≡◌, ℕ, ◌+◌, ◌-◌, ◌^◌, ⊤, Bool, true, ◌||◌, ◌&&◌, ◌==◌, nat_lt, List, [], ◌∷◌, ◌++◌, length}
+use Rattle.std.specs.Prelude.{◌≡◌, ℕ, ◌+◌, ◌-◌, ◌^◌, ◌≤◌, min, ⊤, Bool, true, ◌==◌, nat_lt, List, [], ◌∷◌, ◌++◌, length}
 use Rattle.std.specs.List.{filter, list_all}
 use Rattle.std.specs.Option.{option_to_list}
 use Rattle.hs_types.specs.declared.journal.Entry.{Entry}
+use Rattle.hs_types.specs.Limits.{journal_limit}
 use Rattle.hs_plain.specs.Legal.{Said, entry_left}
 use Rattle.hs_plain.specs.Replay.{is_proper}
-use Rattle.run_output.specs.Steps.{Sections, Made, Step, printed, made, places_of}
+use Rattle.run_output.specs.Steps.{Sections, Made, Step, printed, made, number_rises, places_of}
 use Rattle.run_output.specs.Run.{caller, IsLegal}
 
 abbrev pub is_of : ℕ → Entry → Bool
@@ -14,10 +15,6 @@ is_of c entry = entry.caller.0 == c
 -- the entry that a call left, if it left one
 abbrev pub own : ℕ → Said → List Entry
 own c said = option_to_list (entry_left (caller c) said)
-
--- the numbers of calls rise; the last number of a u64 is shared
-abbrev pub number_rises : ℕ → ℕ → Bool
-number_rises before seq = nat_lt before seq || (before == 2 ^ 64 - 1 && seq == 2 ^ 64 - 1)
 
 -- ---- links
 
@@ -28,7 +25,7 @@ pub record IsCalled (tells : Bool) (c : ℕ) (old : List Entry) (number : ℕ) (
   pub grows : new ≡ (old ++ others) ++ own c said
   pub place : said.told.position ≡ length (old ++ others)
   pub legal : IsLegal tells new c said
-  pub counted : number_rises number said.seq ≡ true
+  pub counted : said.seq ≡ min (number + 1) (2 ^ 64 - 1)
 
 -- one entry that a sync made through a link
 pub record IsMadeBy (c : ℕ) (old : List Entry) (number : ℕ) (new : List Entry) (m : Made) : Type 0 where
@@ -68,6 +65,7 @@ pub record AreMet (tells : Bool) (journal : List Entry) (steps : Sections Step) 
   pub begun : List Entry
   pub ended : List Entry
   pub proper : is_proper journal ≡ true
+  pub few : length journal ≤ journal_limit
   pub setup : AreLinked tells 0 [] 0 steps.setup begun
   pub clients : AreClientsMet tells begun ended journal 1 steps.clients
   pub meeting : AreLinked tells 0 begun 0 [] ended

@@ -115,5 +115,7 @@ pub record AreSectionsRun (source_tells target_tells : Bool) (clients : ℕ) (sc
   pub setup_calls : (kept : Kept) → AreCalls 1000 kept runs.setup
   pub client_calls : AllByRecursion (λ client. (kept : Kept) → AreCalls 1000 kept client) runs.clients
   pub finish_calls : (kept : Kept) → AreCalls 1000 kept runs.finish
+  pub few_source : length source ≤ 1000
+  pub few_target : length target ≤ 1000
   pub serial : IsSerial source_tells target_tells runs source target
   pub logs_are : logs ≡ logs_of runs

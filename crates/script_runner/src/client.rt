@@ -1,5 +1,5 @@
 //! A caller of both namenodes, and its calls.
-ghost use Rattle.std.specs.Prelude.{◌≡◌, ◌+◌, ◌++◌, ◌^◌, ◌-◌, ◌≤◌, ℕ, Bool, true, false, length, is_some, min};
+ghost use Rattle.std.specs.Prelude.{◌≡◌, ◌++◌, ℕ, Bool, true, false, length, is_some};
 ghost use Rattle.std.specs.Option.{option_to_list};
 ghost use Rattle.hs_types.specs.Limits.{journal_limit};
 ghost use Rattle.hs_types.specs.declared.ids.CallerId.{CallerId};
@@ -82,7 +82,6 @@ pub(crate) fn make_next<B: BlockStore>(
 ) -> Answered
     requires { is_served call ≡ true }
     ensures made { IsNext (is_some (B.blocks namenode.old.store)) caller.0 namenode.old.entries seq.old namenode.new.entries (record { seq = seq.new; call = call; told = result }) }
-    ensures number { seq.new ≡ min (seq.old + 1) (2 ^ 64 - 1) }
     ensures tells { is_some (B.blocks namenode.new.store) ≡ is_some (B.blocks namenode.old.store) }
 {
     *seq = seq.saturating_add(1);
