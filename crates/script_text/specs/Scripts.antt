@@ -1,5 +1,5 @@
 -- What a text means as a script: its commands, or its first bad line.
-use Rattle.std.specs.Prelude.{◌≡◌, ℕ, ◌+◌, Bool, nat_le, if◌then◌else◌, List, [], ◌∷◌, ◌++◌, length, Option, Some, None, Result, Ok, Err}
+use Rattle.std.specs.Prelude.{◌≡◌, ℕ, ◌+◌, nat_le, if◌then◌else◌, List, [], ◌∷◌, ◌++◌, length, Option, Some, None, Result, Ok, Err}
 use Rattle.std.specs.List.{fold}
 use Rattle.script_text.specs.declared.command.Command.{Command}
 use Rattle.script_text.specs.declared.fault.FaultKind.{FaultKind}
@@ -13,7 +13,7 @@ use Rattle.script_text.specs.declared.script.Standing.{Standing}
 use Rattle.script_text.specs.declared.reader.Reading.{Reading}
 use Rattle.script_text.specs.declared.line.LineMeaning.{LineMeaning}
 use Rattle.script_text.specs.declared.line.LineMeaning.TheVariants.{Skipped, Heading, Said}
-use Rattle.script_text.specs.Words.{lines_of, words_of, is_skipped}
+use Rattle.script_text.specs.Words.{lines_of, words_of, is_comment}
 use Rattle.script_text.specs.Headings.{at_the_start, after_command, is_heading, after_heading}
 use Rattle.script_text.specs.Commands.{command_of}
 use Rattle.script_text.specs.Today.{most_commands_today}
@@ -28,14 +28,17 @@ abbrev pub command_line : Result Command FaultKind → Result LineMeaning FaultK
 command_line (Err kind) = Err kind
 command_line (Ok command) = Ok (Said command)
 
+-- a heading, or else a command, of which there may be so many today
+abbrev pub full_line : Standing → ℕ → List ℕ → List (List ℕ) → Result LineMeaning FaultKind
+full_line standing count first rest =
+    if is_heading first then heading_line (after_heading standing first rest)
+    else if nat_le most_commands_today count then Err kinds.Command
+    else command_line (command_of (first ∷ rest))
+
 -- what the words of a line mean where it stands, after so many commands
 abbrev pub line_of : Standing → ℕ → List (List ℕ) → Result LineMeaning FaultKind
 line_of standing count [] = Ok Skipped
-line_of standing count (first ∷ rest) =
-    if is_skipped (first ∷ rest) then Ok Skipped
-    else if is_heading first then heading_line (after_heading standing first rest)
-    else if nat_le most_commands_today count then Err kinds.Command
-    else command_line (command_of (first ∷ rest))
+line_of standing count (first ∷ rest) = if is_comment first then Ok Skipped else full_line standing count first rest
 
 -- ---- line after line
 

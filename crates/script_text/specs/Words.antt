@@ -1,5 +1,5 @@
 -- The lines of a text, and the words of a line.
-use Rattle.std.specs.Prelude.{ℕ, ◌-◌, Bool, true, false, ◌||◌, ◌==◌, nat_le, if◌then◌else◌, List, [], ◌∷◌, length, take, slice_index}
+use Rattle.std.specs.Prelude.{ℕ, ◌-◌, Bool, ◌||◌, ◌==◌, nat_le, if◌then◌else◌, List, [], ◌∷◌, length, take, slice_index}
 use Rattle.std.specs.List.{filter, slice_split}
 
 abbrev pub is_line_feed : ℕ → Bool
@@ -30,7 +30,6 @@ without_return line = if slice_index line (length line - 1) == 13 then take (len
 abbrev pub words_of : List ℕ → List (List ℕ)
 words_of line = filter is_full (slice_split is_blank (without_return line))
 
--- a line is skipped where it has no words, or where its first word begins with `#`
-abbrev pub is_skipped : List (List ℕ) → Bool
-is_skipped [] = true
-is_skipped (first ∷ rest) = slice_index first 0 == 35
+-- a line without words is skipped, and one whose first word begins with `#`
+abbrev pub is_comment : List ℕ → Bool
+is_comment first = slice_index first 0 == 35

@@ -2,9 +2,9 @@
 ghost use Rattle.std.specs.Prelude.{◌≡◌};
 ghost use Rattle.script_text.specs.Commands.{word_of as plain_word_of};
 
-/// What may follow a side, each spelled as its name in lower-case letters.
+/// What may follow a side; each is spelled as its name in lower-case letters.
 #[derive(Clone, Copy, Debug, PartialEq, Eq)]
-pub enum CommandWord {
+pub(crate) enum CommandWord {
     Mkdir,
     Create,
     CreateOver,
@@ -31,35 +31,45 @@ pub enum CommandWord {
     DMore,
 }
 
+/// The command that a text spells.
+fn word_of_text(text: &str) -> Option<CommandWord>
+    ensures { result ≡ plain_word_of text.now }
+{
+    match text {
+        "mkdir" => Some(CommandWord::Mkdir),
+        "create" => Some(CommandWord::Create),
+        "createover" => Some(CommandWord::CreateOver),
+        "append" => Some(CommandWord::Append),
+        "fill" => Some(CommandWord::Fill),
+        "rm" => Some(CommandWord::Rm),
+        "rmr" => Some(CommandWord::Rmr),
+        "mv" => Some(CommandWord::Mv),
+        "chmod" => Some(CommandWord::Chmod),
+        "allow" => Some(CommandWord::Allow),
+        "disallow" => Some(CommandWord::Disallow),
+        "snap" => Some(CommandWord::Snap),
+        "snapdel" => Some(CommandWord::SnapDel),
+        "snapren" => Some(CommandWord::SnapRen),
+        "stat" => Some(CommandWord::Stat),
+        "cat" => Some(CommandWord::Cat),
+        "ls" => Some(CommandWord::Ls),
+        "snaps" => Some(CommandWord::Snaps),
+        "dirs" => Some(CommandWord::Dirs),
+        "diff" => Some(CommandWord::Diff),
+        "first" => Some(CommandWord::First),
+        "more" => Some(CommandWord::More),
+        "dfirst" => Some(CommandWord::DFirst),
+        "dmore" => Some(CommandWord::DMore),
+        _ => None,
+    }
+}
+
 /// The command that a word spells.
-pub fn word_of(word: &[u8]) -> Option<CommandWord>
+pub(crate) fn word_of(word: &[u8]) -> Option<CommandWord>
     ensures { result ≡ plain_word_of word.now }
 {
-    match word {
-        b"mkdir" => Some(CommandWord::Mkdir),
-        b"create" => Some(CommandWord::Create),
-        b"createover" => Some(CommandWord::CreateOver),
-        b"append" => Some(CommandWord::Append),
-        b"fill" => Some(CommandWord::Fill),
-        b"rm" => Some(CommandWord::Rm),
-        b"rmr" => Some(CommandWord::Rmr),
-        b"mv" => Some(CommandWord::Mv),
-        b"chmod" => Some(CommandWord::Chmod),
-        b"allow" => Some(CommandWord::Allow),
-        b"disallow" => Some(CommandWord::Disallow),
-        b"snap" => Some(CommandWord::Snap),
-        b"snapdel" => Some(CommandWord::SnapDel),
-        b"snapren" => Some(CommandWord::SnapRen),
-        b"stat" => Some(CommandWord::Stat),
-        b"cat" => Some(CommandWord::Cat),
-        b"ls" => Some(CommandWord::Ls),
-        b"snaps" => Some(CommandWord::Snaps),
-        b"dirs" => Some(CommandWord::Dirs),
-        b"diff" => Some(CommandWord::Diff),
-        b"first" => Some(CommandWord::First),
-        b"more" => Some(CommandWord::More),
-        b"dfirst" => Some(CommandWord::DFirst),
-        b"dmore" => Some(CommandWord::DMore),
-        _ => None,
+    match str::from_utf8(word) {
+        Ok(text) => word_of_text(text),
+        Err(_) => None,
     }
 }

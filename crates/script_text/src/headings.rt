@@ -11,7 +11,7 @@ const MOST_CLIENTS: u64 = 16;
 
 impl Standing {
     /// Where the first line stands.
-    pub fn start() -> Standing
+    pub(crate) fn start() -> Standing
         ensures { result ≡ at_the_start }
     {
         Standing {
@@ -32,10 +32,10 @@ fn is_finish(section: Section) -> bool
 }
 
 /// Whether a line's first word makes it a heading.
-pub(crate) fn is_heading(first: &[u8]) -> bool
+pub(crate) fn is_heading(first: &str) -> bool
     ensures { result ≡ plain_is_heading first.now }
 {
-    matches!(first, b"setup" | b"client" | b"finish")
+    matches!(first, "setup" | "client" | "finish")
 }
 
 fn after_setup(standing: Standing, rest: &[&[u8]]) -> Option<Standing>
@@ -94,12 +94,12 @@ fn after_finish(standing: Standing, rest: &[&[u8]]) -> Option<Standing>
 }
 
 /// Where the lines after a heading stand; `None` where it is wrong or out of its place.
-pub(crate) fn after_heading(standing: Standing, first: &[u8], rest: &[&[u8]]) -> Option<Standing>
+pub(crate) fn after_heading(standing: Standing, first: &str, rest: &[&[u8]]) -> Option<Standing>
     ensures { result ≡ plain_after_heading standing first.now (map (λ word. word.now) rest.now) }
 {
     match first {
-        b"setup" => after_setup(standing, rest),
-        b"client" => after_client(standing, rest),
+        "setup" => after_setup(standing, rest),
+        "client" => after_client(standing, rest),
         _ => after_finish(standing, rest),
     }
 }

@@ -2,7 +2,7 @@
 #![tactic(auto)]
 
 pub mod command;
-pub mod command_word;
+mod command_word;
 pub mod fault;
 mod headings;
 mod line;
@@ -13,7 +13,6 @@ mod side_commands;
 mod words;
 
 pub use command::{Command, Pages, PagesKind};
-pub use command_word::CommandWord;
 pub use fault::{FaultKind, ReadScriptFault, ScriptFault};
 pub use reader::read;
-pub use script::{Script, ScriptLine, Section, Standing};
+pub use script::{Script, ScriptLine, Section};

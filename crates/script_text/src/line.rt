@@ -1,10 +1,10 @@
 //! One line of a script.
-ghost use Rattle.std.specs.Prelude.{◌==◌, ◌≡◌, [], ◌∷◌, map, slice_index};
-ghost use Rattle.script_text.specs.Words.{words_of as plain_words_of};
+ghost use Rattle.std.specs.Prelude.{◌≡◌, [], ◌∷◌, map};
+ghost use Rattle.script_text.specs.Words.{is_comment, words_of as plain_words_of};
 ghost use Rattle.script_text.specs.declared.command.Command.TheVariants as commands;
 ghost use Rattle.script_text.specs.Commands.{decoded, where_texts, command_of as plain_command_of, sync_command as plain_sync_command};
 ghost use Rattle.script_text.specs.Headings.{after_heading as plain_after_heading};
-ghost use Rattle.script_text.specs.Scripts.{line_of as plain_line_of, heading_line};
+ghost use Rattle.script_text.specs.Scripts.{line_of as plain_line_of, full_line as plain_full_line, heading_line as plain_heading_line};
 ghost use Rattle.script_text.specs.Faults.{Gives};
 
 use crate::command::Command;
@@ -32,22 +32,18 @@ const MOST_COMMANDS: usize = 1000;
 /// Whether `sync` is read, today.
 const READS_SYNC: bool = false;
 
-fn is_comment(first: &[u8]) -> bool
-    ensures { result ≡ (slice_index first.now 0 == 35) }
-{
-    matches!(first, [b'#', ..])
-}
-
-/// The sync of two directories and two snapshots.
+/// The sync of two directories, from one snapshot to another.
 fn sync_of(
     alloc: Global,
-    directories: (&[u8], &[u8]),
-    snapshots: (&[u8], &[u8]),
+    source: &[u8],
+    target: &[u8],
+    from: &[u8],
+    to: &[u8],
 ) -> Result<Command, LineFault>
-    ensures { Gives (where_texts (directories.0.now ∷ directories.1.now ∷ snapshots.0.now ∷ snapshots.1.now ∷ []) (commands.Sync (decoded directories.0.now) (decoded directories.1.now) (decoded snapshots.0.now) (decoded snapshots.1.now))) result }
+    ensures { Gives (where_texts (source.now ∷ target.now ∷ from.now ∷ to.now ∷ []) (commands.Sync (decoded source.now) (decoded target.now) (decoded from.now) (decoded to.now))) result }
 {
-    let (source, target) = two_texts(alloc, directories.0, directories.1)?;
-    let (from, to) = two_texts(alloc, snapshots.0, snapshots.1)?;
+    let (source, target) = two_texts(alloc, source, target)?;
+    let (from, to) = two_texts(alloc, from, to)?;
     Ok(Command::Sync {
         source: PathText::new(source),
         target: PathText::new(target),
@@ -61,58 +57,73 @@ fn sync_command(alloc: Global, words: &[&[u8]]) -> Result<Command, LineFault>
     ensures { Gives (plain_sync_command (map (λ word. word.now) words.now)) result }
 {
     match words {
-        [source, target, from, to] => sync_of(alloc, (source, target), (from, to)),
+        [source, target, from, to] => sync_of(alloc, source, target, from, to),
         _ => Err(LineFault::Bad(FaultKind::Words)),
     }
 }
 
 /// What the words of a command line say.
-fn command_of(alloc: Global, first: &[u8], rest: &[&[u8]]) -> Result<Command, LineFault>
+fn command_of(alloc: Global, first: &str, rest: &[&[u8]]) -> Result<Command, LineFault>
     ensures { Gives (plain_command_of (first.now ∷ map (λ word. word.now) rest.now)) result }
 {
     match first {
-        b"s" => side_command(alloc, Side::Source, rest),
-        b"t" => side_command(alloc, Side::Target, rest),
-        b"sync" if READS_SYNC => sync_command(alloc, rest),
+        "s" => side_command(alloc, Side::Source, rest),
+        "t" => side_command(alloc, Side::Target, rest),
+        "sync" if READS_SYNC => sync_command(alloc, rest),
         _ => Err(LineFault::Bad(FaultKind::Command)),
     }
 }
 
-/// What the words of a line mean.
-fn words_meaning(
-    alloc: Global,
-    standing: Standing,
-    count: usize,
-    words: &[&[u8]],
-) -> Result<LineMeaning, LineFault>
-    ensures { Gives (plain_line_of standing count (map (λ word. word.now) words.now)) result }
-{
-    match words {
-        [] => Ok(LineMeaning::Skipped),
-        [first, rest @ ..] => {
-            if is_comment(first) {
-                Ok(LineMeaning::Skipped)
-            } else if is_heading(first) {
-                heading_meaning(standing, first, rest)
-            } else if count >= MOST_COMMANDS {
-                Err(LineFault::Bad(FaultKind::Command))
-            } else {
-                Ok(LineMeaning::Said(command_of(alloc, first, rest)?))
-            }
-        }
-    }
-}
-
-fn heading_meaning(
-    standing: Standing,
-    first: &[u8],
-    rest: &[&[u8]],
-) -> Result<LineMeaning, LineFault>
-    ensures { Gives (heading_line (plain_after_heading standing first.now (map (λ word. word.now) rest.now))) result }
+fn heading_line(standing: Standing, first: &str, rest: &[&[u8]]) -> Result<LineMeaning, LineFault>
+    ensures { Gives (plain_heading_line (plain_after_heading standing first.now (map (λ word. word.now) rest.now))) result }
 {
     match after_heading(standing, first, rest) {
         Some(after) => Ok(LineMeaning::Heading(after)),
         None => Err(LineFault::Bad(FaultKind::Section)),
+    }
+}
+
+/// What a line means that has words and isn't a comment.
+fn full_line(
+    alloc: Global,
+    standing: Standing,
+    count: usize,
+    first: &str,
+    rest: &[&[u8]],
+) -> Result<LineMeaning, LineFault>
+    ensures { Gives (plain_full_line standing count first.now (map (λ word. word.now) rest.now)) result }
+{
+    if is_heading(first) {
+        heading_line(standing, first, rest)
+    } else if count >= MOST_COMMANDS {
+        Err(LineFault::Bad(FaultKind::Command))
+    } else {
+        Ok(LineMeaning::Said(command_of(alloc, first, rest)?))
+    }
+}
+
+fn is_comment(first: &[u8]) -> bool
+    ensures { result ≡ is_comment first.now }
+{
+    matches!(first, [b'#', ..])
+}
+
+/// What a line means that has words. A first word that is no text is no command.
+fn line_of_words(
+    alloc: Global,
+    standing: Standing,
+    count: usize,
+    first: &[u8],
+    rest: &[&[u8]],
+) -> Result<LineMeaning, LineFault>
+    ensures { Gives (plain_line_of standing count (first.now ∷ map (λ word. word.now) rest.now)) result }
+{
+    if is_comment(first) {
+        return Ok(LineMeaning::Skipped);
+    }
+    match str::from_utf8(first) {
+        Ok(first) => full_line(alloc, standing, count, first, rest),
+        Err(_) => Err(LineFault::Bad(FaultKind::Command)),
     }
 }
 
@@ -126,5 +137,8 @@ pub(crate) fn line_of(
     ensures { Gives (plain_line_of standing count (plain_words_of line.now)) result }
 {
     let words = words_of(alloc, line)?;
-    words_meaning(alloc, standing, count, words.as_slice())
+    match words.as_slice() {
+        [] => Ok(LineMeaning::Skipped),
+        [first, rest @ ..] => line_of_words(alloc, standing, count, first, rest),
+    }
 }

@@ -1,7 +1,7 @@
 //! Numbers that words spell.
 ghost use Rattle.std.specs.Prelude.{◌≡◌, ◌≤◌, ◌^◌, ◌<◌, ◌-◌, replicate, length, true, Some, IfOk, IfSome, IsSome};
 ghost use Rattle.std.specs.List.{list_all};
-ghost use Rattle.std.specs.Char.{is_digit};
+ghost use Rattle.std.specs.Char.{is_digit, digit_value as plain_digit_value};
 ghost use Rattle.std.specs.Str.Parse.{digits_value};
 ghost use Rattle.script_text.specs.Numbers.{is_numeral, number_of, decimal_of as plain_decimal_of, count_of as plain_count_of, byte_of as plain_byte_of, mode_of as plain_mode_of};
 
@@ -29,7 +29,7 @@ fn digit_value(radix: u32, digit: u8) -> u64
     requires low { 2 ≤ radix }
     requires high { radix ≤ 16 }
     requires digit { is_digit digit radix ≡ true }
-    ensures { result ≡ digit_value digit }
+    ensures { result ≡ plain_digit_value digit }
 {
     match (digit as char).to_digit(radix) {
         Some(value) => value as u64,

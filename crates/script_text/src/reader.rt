@@ -1,7 +1,7 @@
 //! The reader of scripts: one line after the other, from the front.
-ghost use Rattle.std.specs.Prelude.{◌≡◌, ◌≢◌, ◌≤◌, ◌<◌, ◌+◌, ◌∷◌, [], Ok, true, length, IfOk, IfErr, OnOk};
-ghost use Rattle.std.specs.List.{list_all};
-ghost use Rattle.script_text.specs.Words.{lines_of};
+ghost use Rattle.std.specs.Prelude.{◌≡◌, ◌≢◌, ◌≤◌, ◌<◌, ◌+◌, ◌∷◌, [], Ok, true, length, IfOk, IfErr, OnOk, IfSome};
+ghost use Rattle.std.specs.List.{list_all, position};
+ghost use Rattle.script_text.specs.Words.{is_line_feed, lines_of};
 ghost use Rattle.script_text.specs.Scripts.{start as plain_start, with_line, read_line as plain_read_line, meaning_of, IsFaultOf};
 ghost use Rattle.script_text.specs.Today.{is_line_today};
 
@@ -86,13 +86,21 @@ impl Reading {
     }
 }
 
+/// Where the first line feed stands.
+fn line_end(bytes: &[u8]) -> Option<usize>
+    ensures place { result ≡ position is_line_feed bytes.now }
+    ensures within { IfSome result (λ end. end < length bytes.now) }
+{
+    bytes.iter().position(|byte| *byte == b'\n')
+}
+
 /// The first line, and what stands behind its line feed.
 fn first_line(bytes: &[u8]) -> (&[u8], &[u8])
     requires { bytes.now ≢ [] }
     ensures lines { lines_of bytes.now ≡ result.0.now ∷ lines_of result.1.now }
     ensures shorter { length result.1.now < length bytes.now }
 {
-    match bytes.iter().position(|byte| *byte == b'\n') {
+    match line_end(bytes) {
         Some(end) => (&bytes[..end], &bytes[end + 1..]),
         None => (bytes, &[]),
     }

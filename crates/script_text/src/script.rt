@@ -50,7 +50,7 @@ impl Script {
 
 /// What the lines before a line leave: the section that it stands in.
 #[derive(Clone, Copy, Debug, PartialEq, Eq)]
-pub struct Standing {
+pub(crate) struct Standing {
     /// Whether a heading or a command was read.
     pub begun: bool,
     pub section: Section,

@@ -7,4 +7,6 @@ mod ends;
 #[cfg(test)]
 mod namenodes;
 #[cfg(test)]
+mod scripts;
+#[cfg(test)]
 mod words;

@@ -1,0 +1,6 @@
+pub mod Texts
+pub mod Lines
+pub mod Digits
+pub mod Keywords
+pub mod Results
+pub mod Todays
