@@ -1,5 +1,5 @@
 -- The lines of a section, one after the other.
-use Rattle.std.proofs.Common.{◌≡◌, ℕ, suc, ◌+◌, ◌≤◌, Bool, true, false, cond, ◌&&◌, Option, Some, None, List, [], ◌∷◌, ◌++◌, map, length, refl, ap, sym, ◌∙◌, subst, length-append, append_assoc, append-nil, arith}
+use Rattle.std.proofs.Common.{◌≡◌, ℕ, suc, ◌+◌, ◌<◌, ◌≤◌, Bool, true, false, cond, ◌&&◌, Option, Some, None, List, [], ◌∷◌, ◌++◌, map, length, refl, ap, sym, ◌∙◌, subst, length-append, append_assoc, append-nil, arith}
 use Rattle.std.specs.Option.{option_to_list}
 use Rattle.std.specs.List.{list_all, flat_map}
 use Rattle.std.proofs.lemmas.List.{map-append}
@@ -15,7 +15,7 @@ use Rattle.run_output.specs.Steps.{LineRun, AreCalls}
 use Rattle.run_output.specs.Run.{is_section, are_in, items_of, logged}
 use Rattle.script_runner.specs.InTurn.{World, IsSideRun, AreLinesRun}
 use Rattle.script_runner.specs.Pages.{AreCommands}
-use Rattle.script_runner.specs.Sections.{IsLineRun, IsSectionRun, HasRoom}
+use Rattle.script_runner.specs.Sections.{IsLineRun, IsSectionRun, is_past, IsFront, HasRoom}
 use Rattle.script_runner.proofs.Both.{both_first, both_second, both_yes}
 
 pub all_append : {A : Type 0} (p : A → Bool) (xs ys : List A) → list_all p xs ≡ true → list_all p ys ≡ true → list_all p (xs ++ ys) ≡ true
@@ -30,11 +30,11 @@ lines_push : (st tt : Bool) (c : ℕ) (old now new : World) (runs : List LineRun
 lines_push st tt c old now new [] run made one = (new, subst (λ (w : World). IsSideRun st tt c w (side_of run.line.command) run.said new) (sym made) one, refl)
 lines_push st tt c old now new (r ∷ runs) run made one = (made.0, made.1, lines_push st tt c made.0 now new runs run made.2 one)
 
-pub section_begin : (st tt : Bool) (c : ℕ) (section : Section) (old : World) (lines : List ScriptLine) → IsSectionRun st tt c section old old lines lines []
+section_begin : (st tt : Bool) (c : ℕ) (section : Section) (old : World) (lines : List ScriptLine) → IsSectionRun st tt c section old old lines lines []
 section_begin st tt c section old lines = record { runs = []; lines = refl; of_section = refl; calls = λ kept. tt; made = refl; items_are = refl }
 
 -- one more line
-pub section_grow : (told_s told_t st tt : Bool) (c caller : ℕ) (section : Section) (old now new : World) (before rest after : List ScriptLine) (items new_items : List LogItem) (line : ScriptLine) (item : LogItem) →
+section_grow : (told_s told_t st tt : Bool) (c caller : ℕ) (section : Section) (old now new : World) (before rest after : List ScriptLine) (items new_items : List LogItem) (line : ScriptLine) (item : LogItem) →
     told_s ≡ st → told_t ≡ tt → caller ≡ c → rest ≡ line ∷ after → is_section line.section section ≡ true → new_items ≡ items ++ item ∷ [] →
     IsSectionRun st tt c section old now before rest items → IsLineRun told_s told_t caller now new line item →
     IsSectionRun st tt c section old new before after new_items
@@ -61,28 +61,81 @@ section_grow told_s told_t st tt c caller section old now new before rest after 
 
 -- ---- room
 
-pub room_source : (source target : List Entry) (rest after : List ScriptLine) (line : ScriptLine) → rest ≡ line ∷ after → HasRoom source target rest → length source ≤ 999
+room_source : (source target : List Entry) (rest after : List ScriptLine) (line : ScriptLine) → rest ≡ line ∷ after → HasRoom source target rest → length source ≤ 999
 room_source source target rest after line taken room = omega (arith, room.source_room, ap length taken)
 
-pub room_target : (source target : List Entry) (rest after : List ScriptLine) (line : ScriptLine) → rest ≡ line ∷ after → HasRoom source target rest → length target ≤ 999
+room_target : (source target : List Entry) (rest after : List ScriptLine) (line : ScriptLine) → rest ≡ line ∷ after → HasRoom source target rest → length target ≤ 999
 room_target source target rest after line taken room = omega (arith, room.target_room, ap length taken)
 
-pub room_after : (source target new_source new_target : List Entry) (rest after : List ScriptLine) (line : ScriptLine) → rest ≡ line ∷ after → length new_source ≤ length source + 1 → length new_target ≤ length target + 1 →
+room_after : (source target new_source new_target : List Entry) (rest after : List ScriptLine) (line : ScriptLine) → rest ≡ line ∷ after → length new_source ≤ length source + 1 → length new_target ≤ length target + 1 →
     HasRoom source target rest → HasRoom new_source new_target after
 room_after source target new_source new_target rest after line taken few_source few_target room =
     record { source_room = omega (arith, room.source_room, few_source, ap length taken); target_room = omega (arith, room.target_room, few_target, ap length taken) }
 
 -- ---- today
 
-pub today_here : (rest after : List ScriptLine) (line : ScriptLine) → rest ≡ line ∷ after → list_all is_line_today rest ≡ true → is_line_today line ≡ true
+today_here : (rest after : List ScriptLine) (line : ScriptLine) → rest ≡ line ∷ after → list_all is_line_today rest ≡ true → is_line_today line ≡ true
 today_here rest after line taken today = both_first (is_line_today line) (list_all is_line_today after) (sym (ap (list_all is_line_today) taken) ∙ today)
 
-pub today_after : (rest after : List ScriptLine) (line : ScriptLine) → rest ≡ line ∷ after → list_all is_line_today rest ≡ true → list_all is_line_today after ≡ true
+today_after : (rest after : List ScriptLine) (line : ScriptLine) → rest ≡ line ∷ after → list_all is_line_today rest ≡ true → list_all is_line_today after ≡ true
 today_after rest after line taken today = both_second (is_line_today line) (list_all is_line_today after) (sym (ap (list_all is_line_today) taken) ∙ today)
 
--- a line is taken from the front
-pub taken_front : (rest after : List ScriptLine) (found : Option ScriptLine) (line : ScriptLine) → found ≡ Some line → rest ≡ option_to_list found ++ after → rest ≡ line ∷ after
-taken_front rest after found line is taken = taken ∙ ap (λ (o : Option ScriptLine). option_to_list o ++ after) is
+-- ---- the loop over lines: the next one is taken from the front before it is run
 
-pub taken_none : (rest after : List ScriptLine) (found : Option ScriptLine) → found ≡ None → rest ≡ option_to_list found ++ after → rest ≡ after
-taken_none rest after found is taken = taken ∙ ap (λ (o : Option ScriptLine). option_to_list o ++ after) is
+left_is : (next : Option ScriptLine) (line : ScriptLine) (rest : List ScriptLine) → next ≡ Some line → option_to_list next ++ rest ≡ line ∷ rest
+left_is next line rest is = ap (λ (o : Option ScriptLine). option_to_list o ++ rest) is
+
+pub section_step : (told_s told_t st tt : Bool) (c caller : ℕ) (section : Section) (old now new : World) (before rest behind : List ScriptLine) (next after : Option ScriptLine) (items new_items : List LogItem) (line : ScriptLine) (item : LogItem) →
+    told_s ≡ st → told_t ≡ tt → caller ≡ c → next ≡ Some line → IsFront section next rest → rest ≡ option_to_list after ++ behind → new_items ≡ items ++ item ∷ [] →
+    IsSectionRun st tt c section old now before (option_to_list next ++ rest) items → IsLineRun told_s told_t caller now new line item →
+    IsSectionRun st tt c section old new before (option_to_list after ++ behind) new_items
+section_step told_s told_t st tt c caller section old now new before rest behind next after items new_items line item same_s same_t same_c is front taken pushed kept one =
+    subst (λ (ls : List ScriptLine). IsSectionRun st tt c section old new before ls new_items) taken
+    (section_grow told_s told_t st tt c caller section old now new before (option_to_list next ++ rest) rest items new_items line item same_s same_t same_c (left_is next line rest is) (subst (λ (n : Option ScriptLine). IsFront section n rest) is front) pushed kept one)
+
+pub room_step : (source target new_source new_target : List Entry) (rest behind : List ScriptLine) (next after : Option ScriptLine) (line : ScriptLine) → next ≡ Some line → rest ≡ option_to_list after ++ behind →
+    length new_source ≤ length source + 1 → length new_target ≤ length target + 1 → HasRoom source target (option_to_list next ++ rest) → HasRoom new_source new_target (option_to_list after ++ behind)
+room_step source target new_source new_target rest behind next after line is taken few_source few_target room =
+    subst (λ (ls : List ScriptLine). HasRoom new_source new_target ls) taken (room_after source target new_source new_target (option_to_list next ++ rest) rest line (left_is next line rest is) few_source few_target room)
+
+pub today_step : (rest behind : List ScriptLine) (next after : Option ScriptLine) (line : ScriptLine) → next ≡ Some line → rest ≡ option_to_list after ++ behind → list_all is_line_today (option_to_list next ++ rest) ≡ true → list_all is_line_today (option_to_list after ++ behind) ≡ true
+today_step rest behind next after line is taken today = sym (ap (list_all is_line_today) taken) ∙ today_after (option_to_list next ++ rest) rest line (left_is next line rest is) today
+
+pub today_first : (rest : List ScriptLine) (next : Option ScriptLine) (line : ScriptLine) → next ≡ Some line → list_all is_line_today (option_to_list next ++ rest) ≡ true → is_line_today line ≡ true
+today_first rest next line is today = today_here (option_to_list next ++ rest) rest line (left_is next line rest is) today
+
+pub source_first : (source target : List Entry) (rest : List ScriptLine) (next : Option ScriptLine) (line : ScriptLine) → next ≡ Some line → HasRoom source target (option_to_list next ++ rest) → length source ≤ 999
+source_first source target rest next line is room = room_source source target (option_to_list next ++ rest) rest line (left_is next line rest is) room
+
+pub target_first : (source target : List Entry) (rest : List ScriptLine) (next : Option ScriptLine) (line : ScriptLine) → next ≡ Some line → HasRoom source target (option_to_list next ++ rest) → length target ≤ 999
+target_first source target rest next line is room = room_target source target (option_to_list next ++ rest) rest line (left_is next line rest is) room
+
+pub left_falls : (rest behind : List ScriptLine) (next after : Option ScriptLine) (line : ScriptLine) → next ≡ Some line → rest ≡ option_to_list after ++ behind → length (option_to_list after ++ behind) < length (option_to_list next ++ rest)
+left_falls rest behind next after line is taken = omega (arith, ap length taken, ap length (left_is next line rest is))
+
+-- ---- the section ends where no line is taken
+
+left_none : (next : Option ScriptLine) (rest : List ScriptLine) → next ≡ None → option_to_list next ++ rest ≡ rest
+left_none next rest is = ap (λ (o : Option ScriptLine). option_to_list o ++ rest) is
+
+pub section_end : (st tt : Bool) (c : ℕ) (section : Section) (old new : World) (before rest : List ScriptLine) (next : Option ScriptLine) (items all : List LogItem) → next ≡ None → all ≡ items →
+    IsSectionRun st tt c section old new before (option_to_list next ++ rest) items → IsSectionRun st tt c section old new before rest all
+section_end st tt c section old new before rest next items all is same kept =
+    subst (λ (xs : List LogItem). IsSectionRun st tt c section old new before rest xs) (sym same)
+    (subst (λ (ls : List ScriptLine). IsSectionRun st tt c section old new before ls items) (left_none next rest is) kept)
+
+pub room_end : (source target : List Entry) (rest : List ScriptLine) (next : Option ScriptLine) → next ≡ None → HasRoom source target (option_to_list next ++ rest) → HasRoom source target rest
+room_end source target rest next is room = subst (λ (ls : List ScriptLine). HasRoom source target ls) (left_none next rest is) room
+
+pub today_end : (rest : List ScriptLine) (next : Option ScriptLine) → next ≡ None → list_all is_line_today (option_to_list next ++ rest) ≡ true → list_all is_line_today rest ≡ true
+today_end rest next is today = sym (ap (list_all is_line_today) (left_none next rest is)) ∙ today
+
+pub past_end : (section : Section) (rest : List ScriptLine) (next : Option ScriptLine) → next ≡ None → IsFront section next rest → is_past section rest ≡ true
+past_end section rest next is front = subst (λ (n : Option ScriptLine). IsFront section n rest) is front
+
+-- at first
+pub section_starts : (st tt : Bool) (c : ℕ) (section : Section) (old : World) (before rest : List ScriptLine) (next : Option ScriptLine) → before ≡ option_to_list next ++ rest → IsSectionRun st tt c section old old before (option_to_list next ++ rest) []
+section_starts st tt c section old before rest next taken = subst (λ (ls : List ScriptLine). IsSectionRun st tt c section old old before ls []) taken (section_begin st tt c section old before)
+
+pub room_starts : (source target : List Entry) (before rest : List ScriptLine) (next : Option ScriptLine) → before ≡ option_to_list next ++ rest → HasRoom source target before → HasRoom source target (option_to_list next ++ rest)
+room_starts source target before rest next taken room = subst (λ (ls : List ScriptLine). HasRoom source target ls) taken room

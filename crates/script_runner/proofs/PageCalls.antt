@@ -10,7 +10,7 @@ use Rattle.hs_types.specs.declared.reply.Reply.TheVariants.{Made, Done, SnapMade
 use Rattle.hs_plain.specs.Answer.{answer, claimed, blanked, is_modifying, is_ok_reply, is_store_fault, is_plain_reply}
 use Rattle.hs_plain.specs.Replay.{plain_after}
 use Rattle.hs_plain.specs.Legal.{Said, leaves_entry, reach_of}
-use Rattle.run_output.specs.Calls.{behind, AreAllPages}
+use Rattle.run_output.specs.Calls.{behind, AreAllPages, IsOne}
 use Rattle.script_runner.specs.Links.{own}
 use Rattle.script_runner.specs.InTurn.{IsNext, AreNext}
 use Rattle.script_runner.specs.Pages.{has_greatest_page, IsGreatest, IsWithin, AreAllPagesTo, entries_with, ArePagesTo, AreRun}
@@ -203,4 +203,17 @@ pages_over tells c old new number last first replies all next none same kept =
       made = kept.made;
       replies_are = same ∙ kept.replies_are;
       few = subst (λ n. length new ≤ entries_with n (length old)) none kept.few;
+    }
+
+-- ---- one call alone
+
+pub one_ran : (tells : Bool) (c : ℕ) (old new : List Entry) (number seq : ℕ) (call : Call) (told : Answered) (all : List Answered) → all ≡ told ∷ [] →
+    IsNext tells c old number new (record { seq = seq; call = call; told = told }) → AreRun tells c old number new seq (IsOne (Some call)) all
+one_ran tells c old new number seq call told all is next =
+    record {
+      said = record { seq = seq; call = call; told = told } ∷ [];
+      calls = refl;
+      made = (new, next, refl, refl);
+      replies_are = is;
+      few = leaves_one tells c old new number (record { seq = seq; call = call; told = told }) next;
     }

@@ -54,6 +54,11 @@ abbrev pub is_past : Section → List ScriptLine → Bool
 is_past section [] = true
 is_past section (line ∷ lines) = if is_section line.section section then false else true
 
+-- a line that was taken from the front is of the section, and where none was taken the first isn't
+abbrev pub IsFront : Section → Option ScriptLine → List ScriptLine → Type 0
+IsFront section None rest = is_past section rest ≡ true
+IsFront section (Some line) rest = is_section line.section section ≡ true
+
 -- there is room for an entry of each line
 pub record HasRoom (source target : List Entry) (lines : List ScriptLine) : Type 0 where
   pub source_room : length source + length lines ≤ 1000

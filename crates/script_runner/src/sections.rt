@@ -1,11 +1,11 @@
 //! The sections of a script, run one after the other.
-ghost use Rattle.std.specs.Prelude.{◌≡◌, ◌≤◌, ◌+◌, ◌++◌, ◌∷◌, [], true, false, if◌then◌else◌, is_some, length, IfOk, IfSome, IfNone, OnOk};
+ghost use Rattle.std.specs.Prelude.{◌≡◌, ◌≤◌, ◌+◌, ◌++◌, ◌∷◌, [], true, false, if◌then◌else◌, is_some, length, IfOk, OnOk};
 ghost use Rattle.std.specs.Option.{option_to_list};
 ghost use Rattle.std.specs.List.{list_all};
 ghost use Rattle.script_text.specs.Today.{is_command_today, is_line_today};
 ghost use Rattle.run_output.specs.Calls.{side_of as plain_side_of};
 ghost use Rattle.run_output.specs.Run.{is_section as plain_is_section, what_of as plain_what_of};
-ghost use Rattle.script_runner.specs.Sections.{world, IsCommandRun, IsLineRun, IsSectionRun, is_past, HasRoom, are_ordered, IsClientRun, AreClientsTo, AreSectionsRun};
+ghost use Rattle.script_runner.specs.Sections.{world, IsCommandRun, IsLineRun, IsSectionRun, is_past, IsFront, HasRoom, are_ordered, IsClientRun, AreClientsTo, AreSectionsRun};
 
 use crate::client::Client;
 use crate::pages::ask_command;
@@ -136,8 +136,7 @@ fn is_first_in(rest: &VecDeque<ScriptLine>, section: Section) -> bool
 /// Takes the first line, where it is of the section.
 fn next_in(rest: &mut VecDeque<ScriptLine>, section: Section) -> Option<ScriptLine>
     ensures taken { rest.old.items ≡ option_to_list result ++ rest.new.items }
-    ensures some { IfSome result (λ line. plain_is_section line.section section ≡ true) }
-    ensures none { IfNone result (is_past section rest.new.items ≡ true) }
+    ensures front { IsFront section result rest.new.items }
 {
     if is_first_in(rest, section) {
         rest.pop_front()
@@ -167,8 +166,11 @@ fn run_section<B: BlockStore>(
     ensures target_tells { is_some (B.blocks nodes.new.target.store) ≡ is_some (B.blocks nodes.old.target.store) }
 {
     let mut items = Vec::new(alloc);
-    while let Some(line) = next_in(rest, section) {
-        items.push(run_line(alloc, nodes, client, page, line)?)?;
+    let mut next = next_in(rest, section);
+    while let Some(line) = next {
+        let item = run_line(alloc, nodes, client, page, line)?;
+        items.push(item)?;
+        next = next_in(rest, section);
     }
     Ok(List::of(items))
 }
@@ -219,7 +221,8 @@ fn run_clients<B: BlockStore>(
     ensures target_tells { is_some (B.blocks nodes.new.target.store) ≡ is_some (B.blocks nodes.old.target.store) }
 {
     for index in 0..clients {
-        logs.push(run_client(alloc, nodes, page, index + 1, rest)?)?;
+        let log = run_client(alloc, nodes, page, index + 1, rest)?;
+        logs.push(log)?;
     }
     Ok(())
 }

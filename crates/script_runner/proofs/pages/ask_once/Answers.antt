@@ -1,0 +1,8 @@
+use Rattle.std.specs.Prelude.{is_some}
+use Rattle.script_runner.proofs.PageCalls.{one_ran}
+use Rattle.script_runner.proofs.pages.ask_once.Goals as goal
+
+pub returns-clause-ran : goal.returns-clause-ran
+returns-clause-ran g c =
+    one_ran (is_some (g.B.BlockStore.blocks c.args.namenode.now.store)) c.args.caller.0 c.args.namenode.now.entries c.make_next.new.namenode.entries c.args.seq.now c.make_next.new.seq c.args.call c.make_next.result c.of.result
+    (cc) c.make_next.ensures
