@@ -26,22 +26,22 @@ calls_push : (kept : Kept) (runs : List LineRun) (run : LineRun) → AreCalls 10
 calls_push kept [] run calls one = (one kept, tt)
 calls_push kept (r ∷ runs) run calls one = (calls.0, calls_push (kept_by 1000 kept r.line.command r.said) runs run calls.1 one)
 
-lines_push : (st tt : Bool) (c : ℕ) (old now new : World) (runs : List LineRun) (run : LineRun) → AreLinesRun st tt c old runs now → IsSideRun st tt c now (side_of run.line.command) run.said new → AreLinesRun st tt c old (runs ++ run ∷ []) new
-lines_push st tt c old now new [] run made one = (new, subst (λ (w : World). IsSideRun st tt c w (side_of run.line.command) run.said new) (sym made) one, refl)
-lines_push st tt c old now new (r ∷ runs) run made one = (made.0, made.1, lines_push st tt c made.0 now new runs run made.2 one)
+lines_push : (st dt : Bool) (c : ℕ) (old now new : World) (runs : List LineRun) (run : LineRun) → AreLinesRun st dt c old runs now → IsSideRun st dt c now (side_of run.line.command) run.said new → AreLinesRun st dt c old (runs ++ run ∷ []) new
+lines_push st dt c old now new [] run made one = (new, subst (λ (w : World). IsSideRun st dt c w (side_of run.line.command) run.said new) (sym made) one, refl)
+lines_push st dt c old now new (r ∷ runs) run made one = (made.0, made.1, lines_push st dt c made.0 now new runs run made.2 one)
 
-section_begin : (st tt : Bool) (c : ℕ) (section : Section) (old : World) (lines : List ScriptLine) → IsSectionRun st tt c section old old lines lines []
-section_begin st tt c section old lines = record { runs = []; lines = refl; of_section = refl; calls = λ kept. tt; made = refl; items_are = refl }
+section_begin : (st dt : Bool) (c : ℕ) (section : Section) (old : World) (lines : List ScriptLine) → IsSectionRun st dt c section old old lines lines []
+section_begin st dt c section old lines = record { runs = []; lines = refl; of_section = refl; calls = λ kept. tt; made = refl; items_are = refl }
 
 -- one more line
-section_grow : (told_s told_t st tt : Bool) (c caller : ℕ) (section : Section) (old now new : World) (before rest after : List ScriptLine) (items new_items : List LogItem) (line : ScriptLine) (item : LogItem) →
-    told_s ≡ st → told_t ≡ tt → caller ≡ c → rest ≡ line ∷ after → is_section line.section section ≡ true → new_items ≡ items ++ item ∷ [] →
-    IsSectionRun st tt c section old now before rest items → IsLineRun told_s told_t caller now new line item →
-    IsSectionRun st tt c section old new before after new_items
-section_grow told_s told_t st tt c caller section old now new before rest after items new_items line item same_s same_t same_c taken of pushed kept one =
+section_grow : (told_s told_t st dt : Bool) (c caller : ℕ) (section : Section) (old now new : World) (before rest after : List ScriptLine) (items new_items : List LogItem) (line : ScriptLine) (item : LogItem) →
+    told_s ≡ st → told_t ≡ dt → caller ≡ c → rest ≡ line ∷ after → is_section line.section section ≡ true → new_items ≡ items ++ item ∷ [] →
+    IsSectionRun st dt c section old now before rest items → IsLineRun told_s told_t caller now new line item →
+    IsSectionRun st dt c section old new before after new_items
+section_grow told_s told_t st dt c caller section old now new before rest after items new_items line item same_s same_t same_c taken of pushed kept one =
     let run : LineRun = record { line = line; said = one.said } in
-    let made : IsSideRun st tt c now (side_of line.command) one.said new =
-    subst (λ b. IsSideRun b tt c now (side_of line.command) one.said new) same_s
+    let made : IsSideRun st dt c now (side_of line.command) one.said new =
+    subst (λ b. IsSideRun b dt c now (side_of line.command) one.said new) same_s
     (subst (λ b. IsSideRun told_s b c now (side_of line.command) one.said new) same_t
     (subst (λ n. IsSideRun told_s told_t n now (side_of line.command) one.said new) same_c one.made)) in
     record {
@@ -52,7 +52,7 @@ section_grow told_s told_t st tt c caller section old now new before rest after 
           ∙ ap (λ (ls : List ScriptLine). ls ++ after) (sym (map-append (λ (r : LineRun). r.line) kept.runs (run ∷ [])));
       of_section = all_append (λ r. is_section r.line.section section) kept.runs (run ∷ []) kept.of_section (ap (λ b. b && true) of);
       calls = λ kept_before. calls_push kept_before kept.runs run (kept.calls kept_before) one.calls;
-      made = lines_push st tt c old now new kept.runs run kept.made made;
+      made = lines_push st dt c old now new kept.runs run kept.made made;
       items_are =
           pushed ∙ ap (λ (is : List LogItem). is ++ item ∷ []) kept.items_are
           ∙ ap (λ (is : List LogItem). items_of kept.runs ++ is) one.item_is
@@ -85,13 +85,13 @@ today_after rest after line taken today = both_second (is_line_today line) (list
 left_is : (next : Option ScriptLine) (line : ScriptLine) (rest : List ScriptLine) → next ≡ Some line → option_to_list next ++ rest ≡ line ∷ rest
 left_is next line rest is = ap (λ (o : Option ScriptLine). option_to_list o ++ rest) is
 
-pub section_step : (told_s told_t st tt : Bool) (c caller : ℕ) (section : Section) (old now new : World) (before rest behind : List ScriptLine) (next after : Option ScriptLine) (items new_items : List LogItem) (line : ScriptLine) (item : LogItem) →
-    told_s ≡ st → told_t ≡ tt → caller ≡ c → next ≡ Some line → IsFront section next rest → rest ≡ option_to_list after ++ behind → new_items ≡ items ++ item ∷ [] →
-    IsSectionRun st tt c section old now before (option_to_list next ++ rest) items → IsLineRun told_s told_t caller now new line item →
-    IsSectionRun st tt c section old new before (option_to_list after ++ behind) new_items
-section_step told_s told_t st tt c caller section old now new before rest behind next after items new_items line item same_s same_t same_c is front taken pushed kept one =
-    subst (λ (ls : List ScriptLine). IsSectionRun st tt c section old new before ls new_items) taken
-    (section_grow told_s told_t st tt c caller section old now new before (option_to_list next ++ rest) rest items new_items line item same_s same_t same_c (left_is next line rest is) (subst (λ (n : Option ScriptLine). IsFront section n rest) is front) pushed kept one)
+pub section_step : (told_s told_t st dt : Bool) (c caller : ℕ) (section : Section) (old now new : World) (before rest behind : List ScriptLine) (next after : Option ScriptLine) (items new_items : List LogItem) (line : ScriptLine) (item : LogItem) →
+    told_s ≡ st → told_t ≡ dt → caller ≡ c → next ≡ Some line → IsFront section next rest → rest ≡ option_to_list after ++ behind → new_items ≡ items ++ item ∷ [] →
+    IsSectionRun st dt c section old now before (option_to_list next ++ rest) items → IsLineRun told_s told_t caller now new line item →
+    IsSectionRun st dt c section old new before (option_to_list after ++ behind) new_items
+section_step told_s told_t st dt c caller section old now new before rest behind next after items new_items line item same_s same_t same_c is front taken pushed kept one =
+    subst (λ (ls : List ScriptLine). IsSectionRun st dt c section old new before ls new_items) taken
+    (section_grow told_s told_t st dt c caller section old now new before (option_to_list next ++ rest) rest items new_items line item same_s same_t same_c (left_is next line rest is) (subst (λ (n : Option ScriptLine). IsFront section n rest) is front) pushed kept one)
 
 pub room_step : (source target new_source new_target : List Entry) (rest behind : List ScriptLine) (next after : Option ScriptLine) (line : ScriptLine) → next ≡ Some line → rest ≡ option_to_list after ++ behind →
     length new_source ≤ length source + 1 → length new_target ≤ length target + 1 → HasRoom source target (option_to_list next ++ rest) → HasRoom new_source new_target (option_to_list after ++ behind)
@@ -118,11 +118,11 @@ left_falls rest behind next after line is taken = omega (arith, ap length taken,
 left_none : (next : Option ScriptLine) (rest : List ScriptLine) → next ≡ None → option_to_list next ++ rest ≡ rest
 left_none next rest is = ap (λ (o : Option ScriptLine). option_to_list o ++ rest) is
 
-pub section_end : (st tt : Bool) (c : ℕ) (section : Section) (old new : World) (before rest : List ScriptLine) (next : Option ScriptLine) (items all : List LogItem) → next ≡ None → all ≡ items →
-    IsSectionRun st tt c section old new before (option_to_list next ++ rest) items → IsSectionRun st tt c section old new before rest all
-section_end st tt c section old new before rest next items all is same kept =
-    subst (λ (xs : List LogItem). IsSectionRun st tt c section old new before rest xs) (sym same)
-    (subst (λ (ls : List ScriptLine). IsSectionRun st tt c section old new before ls items) (left_none next rest is) kept)
+pub section_end : (st dt : Bool) (c : ℕ) (section : Section) (old new : World) (before rest : List ScriptLine) (next : Option ScriptLine) (items all : List LogItem) → next ≡ None → all ≡ items →
+    IsSectionRun st dt c section old new before (option_to_list next ++ rest) items → IsSectionRun st dt c section old new before rest all
+section_end st dt c section old new before rest next items all is same kept =
+    subst (λ (xs : List LogItem). IsSectionRun st dt c section old new before rest xs) (sym same)
+    (subst (λ (ls : List ScriptLine). IsSectionRun st dt c section old new before ls items) (left_none next rest is) kept)
 
 pub room_end : (source target : List Entry) (rest : List ScriptLine) (next : Option ScriptLine) → next ≡ None → HasRoom source target (option_to_list next ++ rest) → HasRoom source target rest
 room_end source target rest next is room = subst (λ (ls : List ScriptLine). HasRoom source target ls) (left_none next rest is) room
@@ -134,8 +134,8 @@ pub past_end : (section : Section) (rest : List ScriptLine) (next : Option Scrip
 past_end section rest next is front = subst (λ (n : Option ScriptLine). IsFront section n rest) is front
 
 -- at first
-pub section_starts : (st tt : Bool) (c : ℕ) (section : Section) (old : World) (before rest : List ScriptLine) (next : Option ScriptLine) → before ≡ option_to_list next ++ rest → IsSectionRun st tt c section old old before (option_to_list next ++ rest) []
-section_starts st tt c section old before rest next taken = subst (λ (ls : List ScriptLine). IsSectionRun st tt c section old old before ls []) taken (section_begin st tt c section old before)
+pub section_starts : (st dt : Bool) (c : ℕ) (section : Section) (old : World) (before rest : List ScriptLine) (next : Option ScriptLine) → before ≡ option_to_list next ++ rest → IsSectionRun st dt c section old old before (option_to_list next ++ rest) []
+section_starts st dt c section old before rest next taken = subst (λ (ls : List ScriptLine). IsSectionRun st dt c section old old before ls []) taken (section_begin st dt c section old before)
 
 pub room_starts : (source target : List Entry) (before rest : List ScriptLine) (next : Option ScriptLine) → before ≡ option_to_list next ++ rest → HasRoom source target before → HasRoom source target (option_to_list next ++ rest)
 room_starts source target before rest next taken room = subst (λ (ls : List ScriptLine). HasRoom source target ls) taken room

@@ -73,8 +73,8 @@ module _ (clients : ℕ) (few : clients ≤ 16) where
 
 -- behind all clients there is finish alone
 finish_rank : (clients : ℕ) (section : Section) → is_among clients section ≡ true → nat_le (clients + 1) (rank section) ≡ true → nat_le 17 (rank section) ≡ true
-finish_rank clients sections.Setup among high = absurd (cc)
-finish_rank clients (sections.Client n) among high = absurd (grind (arith, nat_tests))
+finish_rank clients sections.Setup among high = grind (arith, nat_tests)
+finish_rank clients (sections.Client n) among high = grind (arith, nat_tests)
 finish_rank clients sections.Finish among high = refl
 
 -- behind all clients finish is left

@@ -136,8 +136,7 @@ next_push tells c old number [] now here new s made call = (
     legal = call.legal;
     counted = call.counted ∙ ap (λ n. min (n + 1) (2 ^ 64 - 1)) (sym made.1);
   },
-  refl,
-  refl,
+  (refl, refl),
 )
 next_push tells c old number (t ∷ said) now here new s made call = (made.0, made.1, next_push tells c made.0 t.seq said now here new s made.2 call)
 
@@ -213,7 +212,7 @@ one_ran tells c old new number seq call told all is next =
     record {
       said = record { seq = seq; call = call; told = told } ∷ [];
       calls = refl;
-      made = (new, next, refl, refl);
+      made = (new, next, (refl, refl));
       replies_are = is;
       few = leaves_one tells c old new number (record { seq = seq; call = call; told = told }) next;
     }

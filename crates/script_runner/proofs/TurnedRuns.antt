@@ -36,40 +36,40 @@ turned_append tells c old number (made m ∷ steps) more now here new last turne
 turned_append tells c old number (printed s ∷ steps) more now here new last turned next = (turned.0, turned.1, turned_append tells c turned.0 s.seq steps more now here new last turned.2 next)
 
 -- by induction over the commands
-source_step : (st tt : Bool) (c : ℕ) (old : World) (at : Option Side) (said : List Said) (now : World) → IsSideRun st tt c old at said now → Turned st c old.source old.source_calls (cond (goes_to Source at) (map printed said) []) now.source now.source_calls
-source_step st tt c old None said now run = absurd run
-source_step st tt c old (Some Source) said now run = turned_said st c old.source old.source_calls said now.source now.source_calls run.0
-source_step st tt c old (Some Target) said now run = (run.1, run.2)
+source_step : (st dt : Bool) (c : ℕ) (old : World) (at : Option Side) (said : List Said) (now : World) → IsSideRun st dt c old at said now → Turned st c old.source old.source_calls (cond (goes_to Source at) (map printed said) []) now.source now.source_calls
+source_step st dt c old None said now run = absurd run
+source_step st dt c old (Some Source) said now run = turned_said st c old.source old.source_calls said now.source now.source_calls run.0
+source_step st dt c old (Some Target) said now run = (run.1, run.2)
 
-target_step : (st tt : Bool) (c : ℕ) (old : World) (at : Option Side) (said : List Said) (now : World) → IsSideRun st tt c old at said now → Turned tt c old.target old.target_calls (cond (goes_to Target at) (map printed said) []) now.target now.target_calls
-target_step st tt c old None said now run = absurd run
-target_step st tt c old (Some Source) said now run = (run.1, run.2)
-target_step st tt c old (Some Target) said now run = turned_said tt c old.target old.target_calls said now.target now.target_calls run.0
+target_step : (st dt : Bool) (c : ℕ) (old : World) (at : Option Side) (said : List Said) (now : World) → IsSideRun st dt c old at said now → Turned dt c old.target old.target_calls (cond (goes_to Target at) (map printed said) []) now.target now.target_calls
+target_step st dt c old None said now run = absurd run
+target_step st dt c old (Some Source) said now run = (run.1, run.2)
+target_step st dt c old (Some Target) said now run = turned_said dt c old.target old.target_calls said now.target now.target_calls run.0
 
-source_turned : (st tt : Bool) (c : ℕ) (old : World) (runs : List LineRun) (new : World) → AreLinesRun st tt c old runs new → Turned st c old.source old.source_calls (steps_on Source runs) new.source new.source_calls
-source_turned st tt c old [] new ran = (ap (λ (w : World). w.source) ran, ap (λ (w : World). w.source_calls) ran)
-source_turned st tt c old (run ∷ runs) new ran =
+source_turned : (st dt : Bool) (c : ℕ) (old : World) (runs : List LineRun) (new : World) → AreLinesRun st dt c old runs new → Turned st c old.source old.source_calls (steps_on Source runs) new.source new.source_calls
+source_turned st dt c old [] new ran = (ap (λ (w : World). w.source) ran, ap (λ (w : World). w.source_calls) ran)
+source_turned st dt c old (run ∷ runs) new ran =
     turned_append st c old.source old.source_calls (steps_of Source run) (steps_on Source runs) ran.0.source ran.0.source_calls new.source new.source_calls
-    (source_step st tt c old (side_of run.line.command) run.said ran.0 ran.1) (source_turned st tt c ran.0 runs new ran.2)
+    (source_step st dt c old (side_of run.line.command) run.said ran.0 ran.1) (source_turned st dt c ran.0 runs new ran.2)
 
-target_turned : (st tt : Bool) (c : ℕ) (old : World) (runs : List LineRun) (new : World) → AreLinesRun st tt c old runs new → Turned tt c old.target old.target_calls (steps_on Target runs) new.target new.target_calls
-target_turned st tt c old [] new ran = (ap (λ (w : World). w.target) ran, ap (λ (w : World). w.target_calls) ran)
-target_turned st tt c old (run ∷ runs) new ran =
-    turned_append tt c old.target old.target_calls (steps_of Target run) (steps_on Target runs) ran.0.target ran.0.target_calls new.target new.target_calls
-    (target_step st tt c old (side_of run.line.command) run.said ran.0 ran.1) (target_turned st tt c ran.0 runs new ran.2)
+target_turned : (st dt : Bool) (c : ℕ) (old : World) (runs : List LineRun) (new : World) → AreLinesRun st dt c old runs new → Turned dt c old.target old.target_calls (steps_on Target runs) new.target new.target_calls
+target_turned st dt c old [] new ran = (ap (λ (w : World). w.target) ran, ap (λ (w : World). w.target_calls) ran)
+target_turned st dt c old (run ∷ runs) new ran =
+    turned_append dt c old.target old.target_calls (steps_of Target run) (steps_on Target runs) ran.0.target ran.0.target_calls new.target new.target_calls
+    (target_step st dt c old (side_of run.line.command) run.said ran.0 ran.1) (target_turned st dt c ran.0 runs new ran.2)
 
 -- the clients, one after the other
 abbrev TurnedClients : Bool → ℕ → List Entry → List (List Step) → List Entry → Type 0
 TurnedClients tells c old [] new = old ≡ new
 TurnedClients tells c old (client ∷ clients) new = (now : List Entry) × (last : ℕ) × Turned tells c old 0 client now last × TurnedClients tells (c + 1) now clients new
 
-source_clients : (st tt : Bool) (c : ℕ) (old : World) (clients : List (List LineRun)) (new : World) → AreClientsRun st tt c old clients new → TurnedClients st c old.source (map (steps_on Source) clients) new.source
-source_clients st tt c old [] new run = run.0
-source_clients st tt c old (client ∷ clients) new run = (run.0.source, run.0.source_calls, source_turned st tt c (uncounted old) client run.0 run.1, source_clients st tt (c + 1) run.0 clients new run.2)
+source_clients : (st dt : Bool) (c : ℕ) (old : World) (clients : List (List LineRun)) (new : World) → AreClientsRun st dt c old clients new → TurnedClients st c old.source (map (steps_on Source) clients) new.source
+source_clients st dt c old [] new run = run.0
+source_clients st dt c old (client ∷ clients) new run = (run.0.source, run.0.source_calls, source_turned st dt c (uncounted old) client run.0 run.1, source_clients st dt (c + 1) run.0 clients new run.2)
 
-target_clients : (st tt : Bool) (c : ℕ) (old : World) (clients : List (List LineRun)) (new : World) → AreClientsRun st tt c old clients new → TurnedClients tt c old.target (map (steps_on Target) clients) new.target
-target_clients st tt c old [] new run = run.1
-target_clients st tt c old (client ∷ clients) new run = (run.0.target, run.0.target_calls, target_turned st tt c (uncounted old) client run.0 run.1, target_clients st tt (c + 1) run.0 clients new run.2)
+target_clients : (st dt : Bool) (c : ℕ) (old : World) (clients : List (List LineRun)) (new : World) → AreClientsRun st dt c old clients new → TurnedClients dt c old.target (map (steps_on Target) clients) new.target
+target_clients st dt c old [] new run = run.1
+target_clients st dt c old (client ∷ clients) new run = (run.0.target, run.0.target_calls, target_turned st dt c (uncounted old) client run.0 run.1, target_clients st dt (c + 1) run.0 clients new run.2)
 
 -- ---- entries
 
@@ -278,39 +278,39 @@ side_turn tells steps journal turned =
 
 -- ---- both sides
 
-source_side : (st tt : Bool) (runs : Sections LineRun) (source target : List Entry) → IsSerial st tt runs source target → TurnedSide st (steps_to Source runs) source
-source_side st tt runs source target serial =
+source_side : (st dt : Bool) (runs : Sections LineRun) (source target : List Entry) → IsSerial st dt runs source target → TurnedSide st (steps_to Source runs) source
+source_side st dt runs source target serial =
     record {
       begun = serial.begun.source;
       ended = serial.ended.source;
       number = serial.begun.source_calls;
       last = serial.last.source_calls;
-      setup = source_turned st tt 0 fresh runs.setup serial.begun serial.setup;
-      clients = source_clients st tt 1 serial.begun runs.clients serial.ended serial.clients;
-      finish = subst (λ (j : List Entry). Turned st 0 serial.ended.source serial.begun.source_calls (steps_on Source runs.finish) j serial.last.source_calls) serial.source_is (source_turned st tt 0 _ runs.finish serial.last serial.finish);
+      setup = source_turned st dt 0 fresh runs.setup serial.begun serial.setup;
+      clients = source_clients st dt 1 serial.begun runs.clients serial.ended serial.clients;
+      finish = subst (λ (j : List Entry). Turned st 0 serial.ended.source serial.begun.source_calls (steps_on Source runs.finish) j serial.last.source_calls) serial.source_is (source_turned st dt 0 _ runs.finish serial.last serial.finish);
     }
 
-target_side : (st tt : Bool) (runs : Sections LineRun) (source target : List Entry) → IsSerial st tt runs source target → TurnedSide tt (steps_to Target runs) target
-target_side st tt runs source target serial =
+target_side : (st dt : Bool) (runs : Sections LineRun) (source target : List Entry) → IsSerial st dt runs source target → TurnedSide dt (steps_to Target runs) target
+target_side st dt runs source target serial =
     record {
       begun = serial.begun.target;
       ended = serial.ended.target;
       number = serial.begun.target_calls;
       last = serial.last.target_calls;
-      setup = target_turned st tt 0 fresh runs.setup serial.begun serial.setup;
-      clients = target_clients st tt 1 serial.begun runs.clients serial.ended serial.clients;
-      finish = subst (λ (j : List Entry). Turned tt 0 serial.ended.target serial.begun.target_calls (steps_on Target runs.finish) j serial.last.target_calls) serial.target_is (target_turned st tt 0 _ runs.finish serial.last serial.finish);
+      setup = target_turned st dt 0 fresh runs.setup serial.begun serial.setup;
+      clients = target_clients st dt 1 serial.begun runs.clients serial.ended serial.clients;
+      finish = subst (λ (j : List Entry). Turned dt 0 serial.ended.target serial.begun.target_calls (steps_on Target runs.finish) j serial.last.target_calls) serial.target_is (target_turned st dt 0 _ runs.finish serial.last serial.finish);
     }
 
-pub serial_source : (st tt : Bool) (runs : Sections LineRun) (source target : List Entry) → is_proper source ≡ true → length source ≤ journal_limit → IsSerial st tt runs source target → IsSide st source (steps_to Source runs)
-serial_source st tt runs source target proper few serial = met_side st source (steps_to Source runs) (turned_met st (steps_to Source runs) source proper few (source_side st tt runs source target serial))
+pub serial_source : (st dt : Bool) (runs : Sections LineRun) (source target : List Entry) → is_proper source ≡ true → length source ≤ journal_limit → IsSerial st dt runs source target → IsSide st source (steps_to Source runs)
+serial_source st dt runs source target proper few serial = met_side st source (steps_to Source runs) (turned_met st (steps_to Source runs) source proper few (source_side st dt runs source target serial))
 
-pub serial_target : (st tt : Bool) (runs : Sections LineRun) (source target : List Entry) → is_proper target ≡ true → length target ≤ journal_limit → IsSerial st tt runs source target → IsSide tt target (steps_to Target runs)
-serial_target st tt runs source target proper few serial = met_side tt target (steps_to Target runs) (turned_met tt (steps_to Target runs) target proper few (target_side st tt runs source target serial))
+pub serial_target : (st dt : Bool) (runs : Sections LineRun) (source target : List Entry) → is_proper target ≡ true → length target ≤ journal_limit → IsSerial st dt runs source target → IsSide dt target (steps_to Target runs)
+serial_target st dt runs source target proper few serial = met_side dt target (steps_to Target runs) (turned_met dt (steps_to Target runs) target proper few (target_side st dt runs source target serial))
 
-pub serial_turn : (st tt : Bool) (runs : Sections LineRun) (source target : List Entry) → IsSerial st tt runs source target → IsInTurn runs
-serial_turn st tt runs source target serial =
+pub serial_turn : (st dt : Bool) (runs : Sections LineRun) (source target : List Entry) → IsSerial st dt runs source target → IsInTurn runs
+serial_turn st dt runs source target serial =
     record {
-      source = side_turn st (steps_to Source runs) source (source_side st tt runs source target serial);
-      target = side_turn tt (steps_to Target runs) target (target_side st tt runs source target serial);
+      source = side_turn st (steps_to Source runs) source (source_side st dt runs source target serial);
+      target = side_turn dt (steps_to Target runs) target (target_side st dt runs source target serial);
     }

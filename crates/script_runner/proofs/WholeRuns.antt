@@ -20,20 +20,20 @@ use Rattle.script_runner.specs.Sections.{IsSectionRun, unnumbered, AreClientsTo,
 use Rattle.script_runner.proofs.TurnedRuns.{serial_source, serial_target, serial_turn}
 
 -- each client counts its own calls
-from_unnumbered : (st tt : Bool) (c : ℕ) (begun : World) (clients : List (List LineRun)) (new : World) → AreClientsRun st tt c (unnumbered begun.source begun.target) clients new → AreClientsRun st tt c begun clients new
-from_unnumbered st tt c begun [] new made = made
-from_unnumbered st tt c begun (client ∷ clients) new made = made
+from_unnumbered : (st dt : Bool) (c : ℕ) (begun : World) (clients : List (List LineRun)) (new : World) → AreClientsRun st dt c (unnumbered begun.source begun.target) clients new → AreClientsRun st dt c begun clients new
+from_unnumbered st dt c begun [] new made = made
+from_unnumbered st dt c begun (client ∷ clients) new made = made
 
 -- setup, the clients and finish, with their logs
-pub sections_ran : (st tt told_s told_t late_s late_t : Bool) (clients c d from_s from_t to_s to_t : ℕ) (bs bt es et ls lt : List Entry) (script rest left after : List ScriptLine) (setup finish : List LogItem) (setup_log finish_log : ClientLog) (first logs all : List ClientLog) →
-    told_s ≡ st → told_t ≡ tt → late_s ≡ st → late_t ≡ tt → c ≡ 0 → d ≡ 0 →
-    IsSectionRun st tt c sections.Setup fresh (record { source = bs; target = bt; source_calls = from_s; target_calls = from_t }) script rest setup →
+pub sections_ran : (st dt told_s told_t late_s late_t : Bool) (clients c d from_s from_t to_s to_t : ℕ) (bs bt es et ls lt : List Entry) (script rest left after : List ScriptLine) (setup finish : List LogItem) (setup_log finish_log : ClientLog) (first logs all : List ClientLog) →
+    told_s ≡ st → told_t ≡ dt → late_s ≡ st → late_t ≡ dt → c ≡ 0 → d ≡ 0 →
+    IsSectionRun st dt c sections.Setup fresh (record { source = bs; target = bt; source_calls = from_s; target_calls = from_t }) script rest setup →
     AreClientsTo told_s told_t clients bs bt es et rest left first logs →
     IsSectionRun late_s late_t d sections.Finish (record { source = es; target = et; source_calls = from_s; target_calls = from_t }) (record { source = ls; target = lt; source_calls = to_s; target_calls = to_t }) left after finish →
     length ls ≤ 1000 → length lt ≤ 1000 → after ≡ [] → first ≡ setup_log ∷ [] → all ≡ logs ++ finish_log ∷ [] →
     setup_log ≡ record { section = sections.Setup; items = setup } → finish_log ≡ record { section = sections.Finish; items = finish } →
-    AreSectionsRun st tt clients script ls lt all
-sections_ran st tt told_s told_t late_s late_t clients c d from_s from_t to_s to_t bs bt es et ls lt script rest left after setup finish setup_log finish_log first logs all same_s same_t also_s also_t zero zero_too front middle back few_source few_target none begins ends setup_is finish_is =
+    AreSectionsRun st dt clients script ls lt all
+sections_ran st dt told_s told_t late_s late_t clients c d from_s from_t to_s to_t bs bt es et ls lt script rest left after setup finish setup_log finish_log first logs all same_s same_t also_s also_t zero zero_too front middle back few_source few_target none begins ends setup_is finish_is =
     let begun : World = record { source = bs; target = bt; source_calls = from_s; target_calls = from_t } in
     let resumed : World = record { source = es; target = et; source_calls = from_s; target_calls = from_t } in
     let last : World = record { source = ls; target = lt; source_calls = to_s; target_calls = to_t } in
@@ -62,13 +62,13 @@ sections_ran st tt told_s told_t late_s late_t clients c d from_s from_t to_s to
         begun = begun;
         ended = unnumbered es et;
         last = last;
-        setup = subst (λ n. AreLinesRun st tt n fresh front.runs begun) zero front.made;
+        setup = subst (λ n. AreLinesRun st dt n fresh front.runs begun) zero front.made;
         clients =
-            from_unnumbered st tt 1 begun middle.clients (unnumbered es et)
-            (subst (λ b. AreClientsRun b tt 1 (unnumbered bs bt) middle.clients (unnumbered es et)) same_s (subst (λ b. AreClientsRun told_s b 1 (unnumbered bs bt) middle.clients (unnumbered es et)) same_t middle.made));
+            from_unnumbered st dt 1 begun middle.clients (unnumbered es et)
+            (subst (λ b. AreClientsRun b dt 1 (unnumbered bs bt) middle.clients (unnumbered es et)) same_s (subst (λ b. AreClientsRun told_s b 1 (unnumbered bs bt) middle.clients (unnumbered es et)) same_t middle.made));
         finish =
-            subst (λ n. AreLinesRun st tt n resumed back.runs last) zero_too
-            (subst (λ b. AreLinesRun b tt d resumed back.runs last) also_s (subst (λ b. AreLinesRun late_s b d resumed back.runs last) also_t back.made));
+            subst (λ n. AreLinesRun st dt n resumed back.runs last) zero_too
+            (subst (λ b. AreLinesRun b dt d resumed back.runs last) also_s (subst (λ b. AreLinesRun late_s b d resumed back.runs last) also_t back.made));
         source_is = refl;
         target_is = refl;
       };
@@ -83,12 +83,12 @@ calls_of_each [] all = tt
 calls_of_each (group ∷ groups) all = (all.0 none_kept, calls_of_each groups all.1)
 
 -- with what is shown at the end
-pub whole_run : (told_s told_t st tt : Bool) (page clients : ℕ) (lines script : List ScriptLine) (made_s made_t source target : List Entry) (logs : List ClientLog) (source_end target_end : End) →
-    told_s ≡ st → told_t ≡ tt → page ≡ 1000 → lines ≡ script → source ≡ made_s → target ≡ made_t →
+pub whole_run : (told_s told_t st dt : Bool) (page clients : ℕ) (lines script : List ScriptLine) (made_s made_t source target : List Entry) (logs : List ClientLog) (source_end target_end : End) →
+    told_s ≡ st → told_t ≡ dt → page ≡ 1000 → lines ≡ script → source ≡ made_s → target ≡ made_t →
     is_proper made_s ≡ true → is_proper made_t ≡ true → IsEndOf made_s source_end → IsEndOf made_t target_end →
     AreSectionsRun told_s told_t clients lines made_s made_t logs →
-    IsRunInTurn st tt page clients script (record { status = Ok_status; source = source; target = target; logs = logs; source_end = source_end; target_end = target_end })
-whole_run told_s told_t st tt page clients lines script made_s made_t source target logs source_end target_end same_s same_t paged read source_is target_is proper_s proper_t shown_s shown_t ran =
+    IsRunInTurn st dt page clients script (record { status = Ok_status; source = source; target = target; logs = logs; source_end = source_end; target_end = target_end })
+whole_run told_s told_t st dt page clients lines script made_s made_t source target logs source_end target_end same_s same_t paged read source_is target_is proper_s proper_t shown_s shown_t ran =
     let whole : IsRunInTurn told_s told_t 1000 clients lines (record { status = Ok_status; source = made_s; target = made_t; logs = logs; source_end = source_end; target_end = target_end }) = record {
       runs = ran.runs;
       run = record {
@@ -104,9 +104,9 @@ whole_run told_s told_t st tt page clients lines script made_s made_t source tar
       };
       turn = serial_turn told_s told_t ran.runs made_s made_t ran.serial;
     } in
-    subst (λ (j : List Entry). IsRunInTurn st tt page clients script (record { status = Ok_status; source = j; target = target; logs = logs; source_end = source_end; target_end = target_end })) (sym source_is)
-    (subst (λ (j : List Entry). IsRunInTurn st tt page clients script (record { status = Ok_status; source = made_s; target = j; logs = logs; source_end = source_end; target_end = target_end })) (sym target_is)
-    (subst (λ (ls : List ScriptLine). IsRunInTurn st tt page clients ls (record { status = Ok_status; source = made_s; target = made_t; logs = logs; source_end = source_end; target_end = target_end })) read
-    (subst (λ n. IsRunInTurn st tt n clients lines (record { status = Ok_status; source = made_s; target = made_t; logs = logs; source_end = source_end; target_end = target_end })) (sym paged)
-    (subst (λ b. IsRunInTurn b tt 1000 clients lines (record { status = Ok_status; source = made_s; target = made_t; logs = logs; source_end = source_end; target_end = target_end })) same_s
+    subst (λ (j : List Entry). IsRunInTurn st dt page clients script (record { status = Ok_status; source = j; target = target; logs = logs; source_end = source_end; target_end = target_end })) (sym source_is)
+    (subst (λ (j : List Entry). IsRunInTurn st dt page clients script (record { status = Ok_status; source = made_s; target = j; logs = logs; source_end = source_end; target_end = target_end })) (sym target_is)
+    (subst (λ (ls : List ScriptLine). IsRunInTurn st dt page clients ls (record { status = Ok_status; source = made_s; target = made_t; logs = logs; source_end = source_end; target_end = target_end })) read
+    (subst (λ n. IsRunInTurn st dt n clients lines (record { status = Ok_status; source = made_s; target = made_t; logs = logs; source_end = source_end; target_end = target_end })) (sym paged)
+    (subst (λ b. IsRunInTurn b dt 1000 clients lines (record { status = Ok_status; source = made_s; target = made_t; logs = logs; source_end = source_end; target_end = target_end })) same_s
     (subst (λ b. IsRunInTurn told_s b 1000 clients lines (record { status = Ok_status; source = made_s; target = made_t; logs = logs; source_end = source_end; target_end = target_end })) same_t whole)))))

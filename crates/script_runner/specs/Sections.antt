@@ -81,7 +81,7 @@ is_among clients sections.Finish = true
 -- the lines stand in the order of their sections, from a rank on
 abbrev pub are_ordered : ℕ → ℕ → List ScriptLine → Bool
 are_ordered clients least [] = true
-are_ordered clients least (line ∷ lines) = is_among clients line.section && nat_le least (rank line.section) && are_ordered clients (rank line.section) lines
+are_ordered clients least (line ∷ lines) = is_among clients line.section && (nat_le least (rank line.section) && are_ordered clients (rank line.section) lines)
 
 -- ---- the clients
 

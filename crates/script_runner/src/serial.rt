@@ -63,20 +63,19 @@ pub fn serial_script<B: BlockStore>(
 {
     let clients = script.clients;
     let mut rest = VecDeque::from_vec(script.into_lines());
-    let mut nodes = Nodes {
-        source: Namenode::new(alloc, source_blocks)?,
-        target: Namenode::new(alloc, target_blocks)?,
-    };
+    let source = Namenode::new(alloc, source_blocks)?;
+    let target = Namenode::new(alloc, target_blocks)?;
+    let mut nodes = Nodes { source, target };
     let logs = run_sections(alloc, &mut nodes, options.page, clients, &mut rest)?;
     let source_end = end_of(&nodes.source)?;
     let target_end = end_of(&nodes.target)?;
     let Nodes { source, target } = nodes;
-    let (source, _) = source.end();
-    let (target, _) = target.end();
+    let (source_journal, _) = source.end();
+    let (target_journal, _) = target.end();
     Ok(Ran {
         status: Status::Ok,
-        source,
-        target,
+        source: source_journal,
+        target: target_journal,
         logs,
         source_end,
         target_end,
