@@ -226,7 +226,7 @@ all_lead (Ok reading) (line ∷ lines) holds = all_lead (or_fault reading (line_
 
 -- ---- a script
 
-pub script_order : (bytes : List ℕ) (script : Script) → meaning_of bytes ≡ Ok script → (are_ordered script.clients 0 script.lines ≡ true) × (length script.lines ≤ 1000) × (script.clients ≤ 16)
+script_order : (bytes : List ℕ) (script : Script) → meaning_of bytes ≡ Ok script → (are_ordered script.clients 0 script.lines ≡ true) × (length script.lines ≤ 1000) × (script.clients ≤ 16)
 script_order bytes script is = by (fold read_line (Ok start) (lines_of bytes)) (all_lead (Ok start) (lines_of bytes) starts) is
   where
     of_reading : (reading : Reading) → IsSoFar reading → record { lines = reading.lines; clients = reading.standing.clients } ≡ script → (are_ordered script.clients 0 script.lines ≡ true) × (length script.lines ≤ 1000) × (script.clients ≤ 16)
@@ -235,3 +235,9 @@ script_order bytes script is = by (fold read_line (Ok start) (lines_of bytes)) (
     by : (result : Result Reading ScriptFault) → Holds result → script_of result ≡ Ok script → (are_ordered script.clients 0 script.lines ≡ true) × (length script.lines ≤ 1000) × (script.clients ≤ 16)
     by (Err fault) holds is = absurd (cc)
     by (Ok reading) holds is = of_reading reading holds (cc)
+
+pub script_ordered : (bytes : List ℕ) (script : Script) → meaning_of bytes ≡ Ok script → are_ordered script.clients 0 script.lines ≡ true
+script_ordered bytes script is = (script_order bytes script is).0
+
+pub script_few : (bytes : List ℕ) (script : Script) → meaning_of bytes ≡ Ok script → length script.lines ≤ 1000
+script_few bytes script is = (script_order bytes script is).1

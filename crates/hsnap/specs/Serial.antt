@@ -1,5 +1,5 @@
 -- What a call of the program promises.
-use Rattle.std.specs.Prelude.{◌≡◌, ℕ, ◌+◌, ◌≤◌, Bool, true, false, bytes_eq, codes, List, [], ◌∷◌, length, take, Option, Some, None, Ok, Err}
+use Rattle.std.specs.Prelude.{◌≡◌, ℕ, ◌+◌, ◌≤◌, Bool, true, false, bytes_eq, codes, List, [], ◌∷◌, length, Option, Some, None, Ok, Err}
 use Rattle.hs_io.specs.Bytes.{Gives, Takes, IsEnded}
 use Rattle.script_text.specs.declared.script.Script.{Script}
 use Rattle.script_text.specs.declared.fault.FaultKind.{FaultKind}
@@ -38,12 +38,6 @@ pub record IsRunOfInput (source_tells target_tells : Bool) (before now : Option 
   pub script : Script
   pub script_read : IsScriptRead before now script
   pub run : IsRunInTurn source_tells target_tells 1000 script.clients script.lines ran
-
--- of the text of the run so much was written
-pub record WasWritten (before now : Option (List ℕ)) (ran : Ran) : Type 0 where
-  pub count : ℕ
-  pub within : count ≤ length (text_of ran)
-  pub taken : Takes before now (take count (text_of ran))
 
 -- the first bad line of the bytes read is this
 pub record IsBadScript (before now : Option (List ℕ)) (line : ℕ) (kind : FaultKind) : Type 0 where
@@ -93,3 +87,13 @@ IsScriptOrNoMemory line kind status.Usage = ⊥
 IsScriptOrNoMemory line kind status.TooLarge = ⊥
 IsScriptOrNoMemory line kind status.ReadFault = ⊥
 IsScriptOrNoMemory line kind status.WriteFault = ⊥
+
+-- the input is too large, or memory ran out
+abbrev pub is_too_large_or_no_memory : Status → Bool
+is_too_large_or_no_memory status.Ok = false
+is_too_large_or_no_memory status.Usage = false
+is_too_large_or_no_memory (status.Script line kind) = false
+is_too_large_or_no_memory status.TooLarge = true
+is_too_large_or_no_memory status.ReadFault = false
+is_too_large_or_no_memory status.WriteFault = false
+is_too_large_or_no_memory status.NoMemory = true

@@ -1,5 +1,5 @@
 //! The top call: from bytes to bytes, one call after the other.
-ghost use Rattle.std.specs.Prelude.{◌≡◌, ◌≤◌, ◌↔◌, true, false, List, [], ℕ, Option, Some, Ok, Err, is_some, length, IfOk, IfErr, IfSome, OnOk, OnErr};
+ghost use Rattle.std.specs.Prelude.{◌≡◌, ◌≤◌, ◌<◌, ◌↔◌, true, false, List, [], ℕ, Option, Some, Ok, Err, is_some, length, IfOk, IfErr, IfSome, OnOk, OnErr};
 ghost use Rattle.std.specs.List.{list_all};
 ghost use Rattle.hs_io.specs.Bytes.{Takes};
 ghost use Rattle.hs_types.specs.Faults.{Rose};
@@ -12,7 +12,7 @@ ghost use Rattle.run_output.specs.Run.{IsRunInTurn};
 ghost use Rattle.run_output.specs.Text.{text_of as plain_text_of};
 ghost use Rattle.script_runner.specs.Sections.{are_ordered};
 ghost use Rattle.hsnap.specs.ReadStatus.{IsReadCause};
-ghost use Rattle.hsnap.specs.Serial.{is_serial as is_plain_serial, most_bytes, IsScriptRead, IsRunOfInput, WasWritten, IsBadScript, IsTooLarge, IsScriptOrNoMemory, not_run, no_end as plain_no_end, is_early, is_ok_or_no_memory};
+ghost use Rattle.hsnap.specs.Serial.{is_serial as is_plain_serial, most_bytes, IsScriptRead, IsRunOfInput, IsBadScript, IsTooLarge, IsScriptOrNoMemory, is_too_large_or_no_memory, not_run, no_end as plain_no_end, is_early, is_ok_or_no_memory};
 
 use block_store::BlockStore;
 use hs_io::{InputErr, Sink, SinkErr, Source, read_all, write_all};
@@ -65,10 +65,12 @@ fn no_end(alloc: Global) -> End
 }
 
 /// Reads the whole input, and the script that it means.
+#[tactic(auto, using(crate::proofs::Read::script_ordered, crate::proofs::Read::script_few))]
 fn read_script<I: Source>(alloc: Global, input: &mut I) -> Result<Script, Status>
     ensures script { IfOk result (IsScriptRead (I.rest input.old) (I.rest input.new)) }
     ensures today { IfOk result (λ script. list_all is_line_today script.lines ≡ true) }
-    ensures few { IfOk result (λ script. (script.clients ≤ 16) × (length script.lines ≤ 1000)) }
+    ensures few_clients { IfOk result (λ script. script.clients ≤ 16) }
+    ensures few_lines { IfOk result (λ script. length script.lines ≤ 1000) }
     ensures order { IfOk result (λ script. are_ordered script.clients 0 script.lines ≡ true) }
     ensures cause { IfErr result (IsReadCause (I.rest input.old) (I.rest input.new) (I.faults input.old) (I.faults input.new)) }
     ensures count { I.faults input.old ≤ I.faults input.new }
@@ -112,7 +114,8 @@ fn run_and_write<O: Sink, B: BlockStore>(
     target_blocks: B,
 ) -> Ran
     requires today { list_all is_line_today script.lines ≡ true }
-    requires few { (script.clients ≤ 16) × (length script.lines ≤ 1000) }
+    requires few_clients { script.clients ≤ 16 }
+    requires few_lines { length script.lines ≤ 1000 }
     requires order { are_ordered script.clients 0 script.lines ≡ true }
     requires source_empty { IfSome (B.blocks source_blocks) (λ map. map ≡ []) }
     requires target_empty { IfSome (B.blocks target_blocks) (λ map. map ≡ []) }
@@ -180,6 +183,10 @@ pub fn serial<I: Source, O: Sink, B: BlockStore>(
     ensures refused { (rest : List ℕ) (line : ℕ) (kind : FaultKind) → is_plain_serial words.now ≡ true →
         I.rest input.old ≡ Some rest → length rest ≤ most_bytes → meaning_of rest ≡ Err (record { line = line; kind = kind }) →
         (Rose (I.faults input.old) (I.faults input.new) → ⊥) → IsScriptOrNoMemory line kind result.status }
+
+    // An input of more bytes is too large.
+    ensures large { (rest : List ℕ) → is_plain_serial words.now ≡ true → I.rest input.old ≡ Some rest → most_bytes < length rest →
+        (Rose (I.faults input.old) (I.faults input.new) → ⊥) → is_too_large_or_no_memory result.status ≡ true }
 
     // Over stores whose counts never rise no journal has an entry of a fault.
     ensures faulted { (most : ℕ) → ((store : B) → B.faults store ≤ most) → (fault_count result.source ≤ most) × (fault_count result.target ≤ most) }

@@ -1,8 +1,6 @@
 pub mod Asked
 pub mod Both
 pub mod Clients
-pub mod Commands
-pub mod Counted
 pub mod Ends
 pub mod Faultless
 pub mod Lines

@@ -134,8 +134,13 @@ pub past_end : (section : Section) (rest : List ScriptLine) (next : Option Scrip
 past_end section rest next is front = subst (λ (n : Option ScriptLine). IsFront section n rest) is front
 
 -- at first
-pub section_starts : (st dt : Bool) (c : ℕ) (section : Section) (old : World) (before rest : List ScriptLine) (next : Option ScriptLine) → before ≡ option_to_list next ++ rest → IsSectionRun st dt c section old old before (option_to_list next ++ rest) []
-section_starts st dt c section old before rest next taken = subst (λ (ls : List ScriptLine). IsSectionRun st dt c section old old before ls []) taken (section_begin st dt c section old before)
+pub section_starts : (st dt : Bool) (c : ℕ) (section : Section) (old : World) (before rest : List ScriptLine) (next : Option ScriptLine) (items : List LogItem) → items ≡ [] → before ≡ option_to_list next ++ rest → IsSectionRun st dt c section old old before (option_to_list next ++ rest) items
+section_starts st dt c section old before rest next items none taken =
+    subst (λ (xs : List LogItem). IsSectionRun st dt c section old old before (option_to_list next ++ rest) xs) (sym none)
+    (subst (λ (ls : List ScriptLine). IsSectionRun st dt c section old old before ls []) taken (section_begin st dt c section old before))
 
 pub room_starts : (source target : List Entry) (before rest : List ScriptLine) (next : Option ScriptLine) → before ≡ option_to_list next ++ rest → HasRoom source target before → HasRoom source target (option_to_list next ++ rest)
 room_starts source target before rest next taken room = subst (λ (ls : List ScriptLine). HasRoom source target ls) taken room
+
+pub today_starts : (before rest : List ScriptLine) (next : Option ScriptLine) → before ≡ option_to_list next ++ rest → list_all is_line_today before ≡ true → list_all is_line_today (option_to_list next ++ rest) ≡ true
+today_starts before rest next taken today = sym (ap (list_all is_line_today) taken) ∙ today

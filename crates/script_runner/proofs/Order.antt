@@ -1,5 +1,5 @@
 -- The order of a script's lines, as its sections are run.
-use Rattle.std.proofs.Common.{◌≡◌, ℕ, suc, ◌+◌, ◌≤◌, nat_le, nat_lt, Bool, true, false, cond, ◌&&◌, ◌==◌, List, [], ◌∷◌, ◌++◌, map, refl, ap, sym, ◌∙◌, subst, arith}
+use Rattle.std.proofs.Common.{◌≡◌, ℕ, suc, ◌+◌, ◌<◌, ◌≤◌, nat_le, nat_lt, Bool, true, false, cond, ◌&&◌, ◌==◌, List, [], ◌∷◌, ◌++◌, map, refl, ap, sym, ◌∙◌, subst, arith}
 use Rattle.std.specs.List.{list_all}
 use Rattle.std.proofs.lemmas.Bool.Decides.{nat_tests}
 use Rattle.script_text.specs.declared.script.ScriptLine.{ScriptLine}
@@ -85,3 +85,7 @@ finish_order clients (line ∷ rest) ordered =
     let more : (nat_le (clients + 1) (rank line.section) && are_ordered clients (rank line.section) rest) ≡ true = both_second (is_among clients line.section) _ ordered in
     both_yes (is_among clients line.section) _ here
     (both_yes (nat_le 17 (rank line.section)) _ (finish_rank clients line.section here (both_first (nat_le (clients + 1) (rank line.section)) _ more)) (both_second (nat_le (clients + 1) (rank line.section)) _ more))
+
+-- a client that is run is one of them
+pub client_among : (clients index : ℕ) → index < clients → is_among clients (sections.Client (index + 1)) ≡ true
+client_among clients index within = grind (arith, nat_tests)

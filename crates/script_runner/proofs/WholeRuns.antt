@@ -3,7 +3,9 @@ use Rattle.std.proofs.Common.{◌≡◌, ℕ, ◌+◌, ◌≤◌, Bool, true, Li
 use Rattle.std.specs.List.{flat_map, AllByRecursion}
 use Rattle.std.proofs.lemmas.List.{map-append}
 use Rattle.hs_types.specs.declared.ids.Side.TheVariants.{Source, Target}
+use Rattle.hs_types.specs.declared.ids.CallerId.{CallerId}
 use Rattle.hs_types.specs.declared.journal.Entry.{Entry}
+use Rattle.script_runner.specs.declared.client.Client.{Client}
 use Rattle.hs_plain.specs.Replay.{is_proper}
 use Rattle.script_text.specs.declared.script.ScriptLine.{ScriptLine}
 use Rattle.script_text.specs.declared.script.Section.TheVariants as sections
@@ -16,7 +18,7 @@ use Rattle.run_output.specs.Calls.{Kept, none_kept}
 use Rattle.run_output.specs.Steps.{Sections, LineRun, AreCalls, kept_after, in_order}
 use Rattle.run_output.specs.Run.{items_of, client_logs, logs_of, IsEndOf, IsRunInTurn}
 use Rattle.script_runner.specs.InTurn.{World, AreLinesRun, AreClientsRun, fresh}
-use Rattle.script_runner.specs.Sections.{IsSectionRun, unnumbered, AreClientsTo, AreSectionsRun}
+use Rattle.script_runner.specs.Sections.{world, IsSectionRun, unnumbered, AreClientsTo, AreSectionsRun}
 use Rattle.script_runner.proofs.TurnedRuns.{serial_source, serial_target, serial_turn}
 
 -- each client counts its own calls
@@ -24,16 +26,20 @@ from_unnumbered : (st dt : Bool) (c : ℕ) (begun : World) (clients : List (List
 from_unnumbered st dt c begun [] new made = made
 from_unnumbered st dt c begun (client ∷ clients) new made = made
 
+-- two new namenodes, and a caller without calls
+pub fresh_is : (source target : List Entry) (client : Client) (caller : CallerId) → source ≡ [] → target ≡ [] → client ≡ record { caller = caller; source_calls = 0; target_calls = 0 } → world source target client ≡ fresh
+fresh_is source target client caller no_source no_target new = ap (λ (s : List Entry). world s target client) no_source ∙ ap (λ (t : List Entry). world [] t client) no_target ∙ ap (λ (k : Client). world [] [] k) new
+
 -- setup, the clients and finish, with their logs
-pub sections_ran : (st dt told_s told_t late_s late_t : Bool) (clients c d from_s from_t to_s to_t : ℕ) (bs bt es et ls lt : List Entry) (script rest left after : List ScriptLine) (setup finish : List LogItem) (setup_log finish_log : ClientLog) (first logs all : List ClientLog) →
-    told_s ≡ st → told_t ≡ dt → late_s ≡ st → late_t ≡ dt → c ≡ 0 → d ≡ 0 →
-    IsSectionRun st dt c sections.Setup fresh (record { source = bs; target = bt; source_calls = from_s; target_calls = from_t }) script rest setup →
+pub sections_ran : (st dt told_s told_t late_s late_t : Bool) (clients c d from_s from_t to_s to_t : ℕ) (bs bt es et ls lt : List Entry) (zeroth : World) (script rest left after : List ScriptLine) (setup finish : List LogItem) (setup_log finish_log : ClientLog) (first logs all : List ClientLog) →
+    told_s ≡ st → told_t ≡ dt → late_s ≡ st → late_t ≡ dt → c ≡ 0 → d ≡ 0 → zeroth ≡ fresh →
+    IsSectionRun st dt c sections.Setup zeroth (record { source = bs; target = bt; source_calls = from_s; target_calls = from_t }) script rest setup →
     AreClientsTo told_s told_t clients bs bt es et rest left first logs →
     IsSectionRun late_s late_t d sections.Finish (record { source = es; target = et; source_calls = from_s; target_calls = from_t }) (record { source = ls; target = lt; source_calls = to_s; target_calls = to_t }) left after finish →
     length ls ≤ 1000 → length lt ≤ 1000 → after ≡ [] → first ≡ setup_log ∷ [] → all ≡ logs ++ finish_log ∷ [] →
     setup_log ≡ record { section = sections.Setup; items = setup } → finish_log ≡ record { section = sections.Finish; items = finish } →
     AreSectionsRun st dt clients script ls lt all
-sections_ran st dt told_s told_t late_s late_t clients c d from_s from_t to_s to_t bs bt es et ls lt script rest left after setup finish setup_log finish_log first logs all same_s same_t also_s also_t zero zero_too front middle back few_source few_target none begins ends setup_is finish_is =
+sections_ran st dt told_s told_t late_s late_t clients c d from_s from_t to_s to_t bs bt es et ls lt zeroth script rest left after setup finish setup_log finish_log first logs all same_s same_t also_s also_t zero zero_too first_world front middle back few_source few_target none begins ends setup_is finish_is =
     let begun : World = record { source = bs; target = bt; source_calls = from_s; target_calls = from_t } in
     let resumed : World = record { source = es; target = et; source_calls = from_s; target_calls = from_t } in
     let last : World = record { source = ls; target = lt; source_calls = to_s; target_calls = to_t } in
@@ -62,7 +68,7 @@ sections_ran st dt told_s told_t late_s late_t clients c d from_s from_t to_s to
         begun = begun;
         ended = unnumbered es et;
         last = last;
-        setup = subst (λ n. AreLinesRun st dt n fresh front.runs begun) zero front.made;
+        setup = subst (λ n. AreLinesRun st dt n fresh front.runs begun) zero (subst (λ (w : World). AreLinesRun st dt c w front.runs begun) first_world front.made);
         clients =
             from_unnumbered st dt 1 begun middle.clients (unnumbered es et)
             (subst (λ b. AreClientsRun b dt 1 (unnumbered bs bt) middle.clients (unnumbered es et)) same_s (subst (λ b. AreClientsRun told_s b 1 (unnumbered bs bt) middle.clients (unnumbered es et)) same_t middle.made));

@@ -11,7 +11,7 @@ abbrev pub invariant-loop-next : goal.invariant-loop-next
 invariant-loop-next g l =
     let left = option_to_list l.next ++ l.rest.items in
     record {
-      ran : IsSectionRun (is_some (g.B.BlockStore.blocks l.initial.nodes.source.store)) (is_some (g.B.BlockStore.blocks l.initial.nodes.target.store)) l.initial.client.caller.0 l.fn.section (world l.initial.nodes.source.entries l.initial.nodes.target.entries l.initial.client) (world l.nodes.source.entries l.nodes.target.entries l.client) l.initial.rest.items left l.items.items;
+      ran : IsSectionRun (is_some (g.B.BlockStore.blocks l.initial.nodes.source.store)) (is_some (g.B.BlockStore.blocks l.initial.nodes.target.store)) l.initial.client.caller.0 l.fn.section (world l.initial.nodes.source.entries l.initial.nodes.target.entries l.initial.client) (world l.nodes.source.entries l.nodes.target.entries l.client) l.fn.rest.items left l.items.items;
       room : HasRoom l.nodes.source.entries l.nodes.target.entries left;
       today : list_all is_line_today left ≡ true;
       front : IsFront l.fn.section l.next l.rest.items;
