@@ -12,7 +12,7 @@ use crate::fault::{FaultKind, LineFault};
 use crate::headings::{after_heading, is_heading};
 use crate::script::Standing;
 use crate::side_commands::side_command;
-use crate::words::{two_texts, words_of};
+use crate::words::{first_words, two_texts};
 use hs_types::{NameText, PathText, Side};
 use std::alloc::Global;
 
@@ -127,6 +127,21 @@ fn line_of_words(
     }
 }
 
+/// What the words of a line mean.
+fn meaning_of_words(
+    alloc: Global,
+    standing: Standing,
+    count: usize,
+    words: &[&[u8]],
+) -> Result<LineMeaning, LineFault>
+    ensures { Gives (plain_line_of standing count (map (λ word. word.now) words.now)) result }
+{
+    match words {
+        [] => Ok(LineMeaning::Skipped),
+        [first, rest @ ..] => line_of_words(alloc, standing, count, first, rest),
+    }
+}
+
 /// What a line means where it stands, after so many commands.
 pub(crate) fn line_of(
     alloc: Global,
@@ -136,9 +151,6 @@ pub(crate) fn line_of(
 ) -> Result<LineMeaning, LineFault>
     ensures { Gives (plain_line_of standing count (plain_words_of line.now)) result }
 {
-    let words = words_of(alloc, line)?;
-    match words.as_slice() {
-        [] => Ok(LineMeaning::Skipped),
-        [first, rest @ ..] => line_of_words(alloc, standing, count, first, rest),
-    }
+    let words = first_words(alloc, line)?;
+    meaning_of_words(alloc, standing, count, words.as_slice())
 }

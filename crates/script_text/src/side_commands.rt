@@ -63,6 +63,24 @@ fn called(side: Side, call: Call) -> Command
     Command::Call { side, call }
 }
 
+fn listing(path: PathText) -> Pages
+    ensures { result ≡ Pages.Listing path }
+{
+    Pages::Listing { path }
+}
+
+fn created(side: Side, path: PathText, over: bool) -> Command
+    ensures { result ≡ commands.Call side (Call.Create path over) }
+{
+    called(side, Call::Create { path, over })
+}
+
+fn deleted(side: Side, path: PathText, recursive: bool) -> Command
+    ensures { result ≡ commands.Call side (Call.Delete path recursive) }
+{
+    called(side, Call::Delete { path, recursive })
+}
+
 /// A command with one path behind it.
 fn path_command(
     alloc: Global,
@@ -72,82 +90,28 @@ fn path_command(
 ) -> Result<Command, LineFault>
     ensures { Gives (plain_path_command side word path.now) result }
 {
+    let path = path_of(alloc, path);
     match word {
-        CommandWord::Mkdir => Ok(called(
-            side,
-            Call::Mkdir {
-                path: path_of(alloc, path)?,
-            },
-        )),
-        CommandWord::Create => Ok(called(
-            side,
-            Call::Create {
-                path: path_of(alloc, path)?,
-                over: false,
-            },
-        )),
-        CommandWord::CreateOver => Ok(called(
-            side,
-            Call::Create {
-                path: path_of(alloc, path)?,
-                over: true,
-            },
-        )),
-        CommandWord::Rm => Ok(called(
-            side,
-            Call::Delete {
-                path: path_of(alloc, path)?,
-                recursive: false,
-            },
-        )),
-        CommandWord::Rmr => Ok(called(
-            side,
-            Call::Delete {
-                path: path_of(alloc, path)?,
-                recursive: true,
-            },
-        )),
-        CommandWord::Allow => Ok(called(
-            side,
-            Call::Allow {
-                path: path_of(alloc, path)?,
-            },
-        )),
-        CommandWord::Disallow => Ok(called(
-            side,
-            Call::Disallow {
-                path: path_of(alloc, path)?,
-            },
-        )),
-        CommandWord::Stat => Ok(called(
-            side,
-            Call::Stat {
-                path: path_of(alloc, path)?,
-            },
-        )),
-        CommandWord::Snaps => Ok(called(
-            side,
-            Call::Snaps {
-                path: path_of(alloc, path)?,
-            },
-        )),
+        CommandWord::Mkdir => Ok(called(side, Call::Mkdir { path: path? })),
+        CommandWord::Create => Ok(created(side, path?, false)),
+        CommandWord::CreateOver => Ok(created(side, path?, true)),
+        CommandWord::Rm => Ok(deleted(side, path?, false)),
+        CommandWord::Rmr => Ok(deleted(side, path?, true)),
+        CommandWord::Allow => Ok(called(side, Call::Allow { path: path? })),
+        CommandWord::Disallow => Ok(called(side, Call::Disallow { path: path? })),
+        CommandWord::Stat => Ok(called(side, Call::Stat { path: path? })),
+        CommandWord::Snaps => Ok(called(side, Call::Snaps { path: path? })),
         CommandWord::Cat => Ok(Command::All {
             side,
-            pages: Pages::File {
-                path: path_of(alloc, path)?,
-            },
+            pages: Pages::File { path: path? },
         }),
         CommandWord::Ls => Ok(Command::All {
             side,
-            pages: Pages::Listing {
-                path: path_of(alloc, path)?,
-            },
+            pages: listing(path?),
         }),
         CommandWord::First => Ok(Command::First {
             side,
-            pages: Pages::Listing {
-                path: path_of(alloc, path)?,
-            },
+            pages: listing(path?),
         }),
         _ => Err(LineFault::Bad(FaultKind::Words)),
     }

@@ -1,5 +1,5 @@
 //! The words of a line, and the texts that they are once their escapes are decoded.
-ghost use Rattle.std.specs.Prelude.{◌≡◌, true, [], ◌∷◌, map, string_bytes, IfOk, OnOk, IfErr};
+ghost use Rattle.std.specs.Prelude.{◌≡◌, true, [], ◌∷◌, map, take, string_bytes, IfOk, OnOk, IfErr};
 ghost use Rattle.script_text.specs.Words.{is_blank, is_full, without_return as plain_without_return, words_of as plain_words_of};
 ghost use Rattle.script_text.specs.Commands.{decoded, is_text, are_texts, fits_chunk, point_of as plain_point_of};
 ghost use Rattle.script_text.specs.Faults.{IsLineFault};
@@ -32,13 +32,17 @@ fn without_return(line: &[u8]) -> &[u8]
     }
 }
 
-/// What stands between the blanks of a line and isn't empty.
-pub(crate) fn words_of(alloc: Global, line: &[u8]) -> Result<Vec<&[u8]>, AllocError>
-    ensures { IfOk result (λ found. map (λ word. word.now) found.items ≡ plain_words_of line.now) }
+/// As many words as tell what a line means: no command has more than five.
+const MOST_WORDS: usize = 6;
+
+/// The first six words of a line: what stands between its blanks and isn't empty.
+pub(crate) fn first_words(alloc: Global, line: &[u8]) -> Result<Vec<&[u8]>, AllocError>
+    ensures { IfOk result (λ found. map (λ word. word.now) found.items ≡ take 6 (plain_words_of line.now)) }
 {
     without_return(line)
         .split(|byte| is_blank(*byte))
         .filter(|word| is_full(word))
+        .take(MOST_WORDS)
         .collect(alloc)
 }
 

@@ -94,6 +94,9 @@ fn print_script(script: &Script, out: &mut String) -> Result<(), Fail> {
 
 /// The commands that a text is read as, or its first bad line.
 fn print_read(alloc: Global, text: &[u8], out: &mut String) -> Result<(), Fail> {
+    if text.len() > 16_777_216 {
+        return Ok(out.push_str("too long")?);
+    }
     match read(alloc, text) {
         Ok(script) => print_script(&script, out),
         Err(fault) => Ok(write!(out, "{fault}")?),
