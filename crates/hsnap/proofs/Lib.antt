@@ -1,13 +1,1 @@
-pub mod Asked
-pub mod Both
-pub mod Ends
-pub mod Faultless
-pub mod Lines
-pub mod ScriptLines
-pub mod ScriptModes
-pub mod ScriptPages
-pub mod ScriptWords
-pub mod Small
-pub mod TextModes
-pub mod Turns
-pub mod Served
+pub mod Read

@@ -1,11 +1,2 @@
-pub mod CallText
-pub mod Pages
 pub mod ReadStatus
-pub mod Run
-pub mod Script
-pub mod ScriptFaults
 pub mod Serial
-pub mod Statuses
-pub mod Text
-pub mod TextParts
-pub mod Turn

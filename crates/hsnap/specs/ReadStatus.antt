@@ -1,15 +1,15 @@
 -- Why no script was read.
 use Rattle.std.specs.Prelude.{ℕ, List, Option}
 use Rattle.hs_types.specs.Faults.{Rose}
-use Rattle.hsnap.specs.declared.ran.Status.{Status}
-use Rattle.hsnap.specs.declared.ran.Status.TheVariants as status
-use Rattle.hsnap.specs.Serial.{IsNoScript, IsTooLarge}
+use Rattle.run_output.specs.declared.ran.Status.{Status}
+use Rattle.run_output.specs.declared.ran.Status.TheVariants as status
+use Rattle.hsnap.specs.Serial.{IsBadScript, IsTooLarge}
 
 -- the cause of each status that reading ends with
 abbrev pub IsReadCause : Option (List ℕ) → Option (List ℕ) → ℕ → ℕ → Status → Type 0
 IsReadCause before now faults_before faults_now status.Ok = ⊥
 IsReadCause before now faults_before faults_now status.Usage = ⊥
-IsReadCause before now faults_before faults_now (status.Script line kind) = IsNoScript before now
+IsReadCause before now faults_before faults_now (status.Script line kind) = IsBadScript before now line kind
 IsReadCause before now faults_before faults_now status.TooLarge = IsTooLarge before now
 IsReadCause before now faults_before faults_now status.ReadFault = Rose faults_before faults_now
 IsReadCause before now faults_before faults_now status.WriteFault = ⊥

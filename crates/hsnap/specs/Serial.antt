@@ -1,14 +1,15 @@
 -- What a call of the program promises.
-use Rattle.std.specs.Prelude.{◌≡◌, ℕ, ◌+◌, ◌≤◌, Bool, true, false, bytes_eq, codes, List, [], ◌∷◌, length, Option, Some, None}
+use Rattle.std.specs.Prelude.{◌≡◌, ℕ, ◌+◌, ◌≤◌, Bool, true, false, bytes_eq, codes, List, [], ◌∷◌, length, Option, Some, None, Ok, Err}
 use Rattle.hs_io.specs.Bytes.{Gives, Takes, IsEnded}
-use Rattle.hs_types.specs.declared.call.Call.{Call}
-use Rattle.hsnap.specs.declared.ran.Ran.{Ran}
-use Rattle.hsnap.specs.declared.ran.End.{End}
-use Rattle.hsnap.specs.declared.ran.Status.{Status}
-use Rattle.hsnap.specs.declared.ran.Status.TheVariants as status
-use Rattle.hsnap.specs.Script.{script_of}
-use Rattle.hsnap.specs.Run.{IsRun}
-use Rattle.hsnap.specs.Text.{text_of}
+use Rattle.script_text.specs.declared.script.Script.{Script}
+use Rattle.script_text.specs.declared.fault.FaultKind.{FaultKind}
+use Rattle.script_text.specs.Scripts.{meaning_of}
+use Rattle.run_output.specs.declared.ran.Ran.{Ran}
+use Rattle.run_output.specs.declared.ran.End.{End}
+use Rattle.run_output.specs.declared.ran.Status.{Status}
+use Rattle.run_output.specs.declared.ran.Status.TheVariants as status
+use Rattle.run_output.specs.Run.{IsRunInTurn}
+use Rattle.run_output.specs.Text.{text_of}
 
 -- the command line is the one word `serial`
 abbrev pub is_serial : List (List ℕ) → Bool
@@ -26,24 +27,23 @@ pub record WasRead (before now : Option (List ℕ)) (bytes : List ℕ) : Type 0 
   pub ended : IsEnded now
   pub within : length bytes ≤ most_bytes
 
--- the bytes read mean these calls
-pub record IsScriptRead (before now : Option (List ℕ)) (calls : List Call) : Type 0 where
+-- the bytes read mean this script
+pub record IsScriptRead (before now : Option (List ℕ)) (script : Script) : Type 0 where
   pub bytes : List ℕ
   pub read : WasRead before now bytes
-  pub means : script_of bytes ≡ Some calls
+  pub means : meaning_of bytes ≡ Ok script
 
--- the bytes read mean a script, the run is one of it in turn, and its text was written
-pub record IsDone (source_tells target_tells : Bool) (before now written_before written_now : Option (List ℕ)) (ran : Ran) : Type 0 where
-  pub calls : List Call
-  pub script : IsScriptRead before now calls
-  pub run : IsRun source_tells target_tells calls ran
-  pub text : Takes written_before written_now (text_of ran)
+-- the bytes read mean a script, and this is a run of it in turn; a listing has pages of 1,000 entries
+pub record IsRunOfInput (source_tells target_tells : Bool) (before now : Option (List ℕ)) (ran : Ran) : Type 0 where
+  pub script : Script
+  pub script_read : IsScriptRead before now script
+  pub run : IsRunInTurn source_tells target_tells 1000 script.clients script.lines ran
 
--- the bytes read are no script
-pub record IsNoScript (before now : Option (List ℕ)) : Type 0 where
+-- the first bad line of the bytes read is this
+pub record IsBadScript (before now : Option (List ℕ)) (line : ℕ) (kind : FaultKind) : Type 0 where
   pub bytes : List ℕ
   pub read : WasRead before now bytes
-  pub means_none : script_of bytes ≡ None
+  pub means : meaning_of bytes ≡ Err (record { line = line; kind = kind })
 
 -- one byte more than an input has was read
 pub record IsTooLarge (before now : Option (List ℕ)) : Type 0 where
@@ -57,15 +57,6 @@ no_end = record { tree = []; counts = record { rows = 0; records = 0; list_entri
 -- nothing was run
 abbrev pub not_run : Status → Ran
 not_run why = record { status = why; source = []; target = []; logs = []; source_end = no_end; target_end = no_end }
-
-abbrev pub is_script_fault : Status → Bool
-is_script_fault status.Ok = false
-is_script_fault status.Usage = false
-is_script_fault (status.Script line kind) = true
-is_script_fault status.TooLarge = false
-is_script_fault status.ReadFault = false
-is_script_fault status.WriteFault = false
-is_script_fault status.NoMemory = false
 
 -- with these nothing was written, and no namenode was called
 abbrev pub is_early : Status → Bool
@@ -86,3 +77,23 @@ is_ok_or_no_memory status.TooLarge = false
 is_ok_or_no_memory status.ReadFault = false
 is_ok_or_no_memory status.WriteFault = false
 is_ok_or_no_memory status.NoMemory = true
+
+-- the input is no script, or memory ran out
+abbrev pub IsScriptOrNoMemory : ℕ → FaultKind → Status → Type 0
+IsScriptOrNoMemory line kind (status.Script at what) = (at ≡ line) × (what ≡ kind)
+IsScriptOrNoMemory line kind status.NoMemory = Unit {0}
+IsScriptOrNoMemory line kind status.Ok = ⊥
+IsScriptOrNoMemory line kind status.Usage = ⊥
+IsScriptOrNoMemory line kind status.TooLarge = ⊥
+IsScriptOrNoMemory line kind status.ReadFault = ⊥
+IsScriptOrNoMemory line kind status.WriteFault = ⊥
+
+-- the input is too large, or memory ran out
+abbrev pub is_too_large_or_no_memory : Status → Bool
+is_too_large_or_no_memory status.Ok = false
+is_too_large_or_no_memory status.Usage = false
+is_too_large_or_no_memory (status.Script line kind) = false
+is_too_large_or_no_memory status.TooLarge = true
+is_too_large_or_no_memory status.ReadFault = false
+is_too_large_or_no_memory status.WriteFault = false
+is_too_large_or_no_memory status.NoMemory = true

@@ -1,18 +1,15 @@
 //! `hsnap`: HDFS snapshots and incremental DistCp, run from a script of client commands.
 #![tactic(auto)]
 
-pub mod ran;
-pub mod runner;
-pub mod script;
 pub mod serial;
 #[cfg(test)]
 mod tests;
-pub mod text;
 
 use block_store::SteadyBlocks;
 use hs_io::{StdSink, StdSource};
 use hs_types::{List, NameText, NoMemory};
-use ran::{FaultKind, Status};
+use run_output::Status;
+use script_text::ScriptFault;
 use std::process::ExitCode;
 use std::{env, io};
 
@@ -30,10 +27,7 @@ fn tell(rt: &HostRuntime, status: Status) -> io::Result<()> {
     match status {
         Status::Ok => Ok(()),
         Status::Usage => { eprintln!(rt; "usage: hsnap MODE [--page N] [--workers N] [--seed N]") }
-        Status::Script {
-            line,
-            kind: FaultKind::Command,
-        } => eprintln!(rt; "script line {line}: Command"),
+        Status::Script { line, kind } => eprintln!(rt; "{}", ScriptFault { line, kind }),
         Status::TooLarge => eprintln!(rt; "input too large"),
         Status::ReadFault => eprintln!(rt; "read fault"),
         Status::WriteFault => eprintln!(rt; "write fault"),

@@ -1,23 +1,25 @@
 //! The top call: from bytes to bytes, one call after the other.
-ghost use Rattle.std.specs.Prelude.{◌≡◌, ◌≤◌, ◌↔◌, true, false, List, [], ℕ, Option, Some, is_some, length, IfOk, IfErr, IfSome, OnOk, OnErr};
+ghost use Rattle.std.specs.Prelude.{◌≡◌, ◌≤◌, ◌<◌, ◌↔◌, true, false, List, [], ℕ, Option, Some, Ok, Err, is_some, length, IfOk, IfErr, IfSome, OnOk, OnErr};
 ghost use Rattle.std.specs.List.{list_all};
 ghost use Rattle.hs_io.specs.Bytes.{Takes};
 ghost use Rattle.hs_types.specs.Faults.{Rose};
-ghost use Rattle.hsnap.specs.Script.{script_of};
-ghost use Rattle.hsnap.specs.Run.{IsRun};
-ghost use Rattle.hsnap.specs.Text.{text_of as plain_text_of};
+ghost use Rattle.namenode_write.specs.Consistent.{fault_count};
+ghost use Rattle.script_text.specs.Scripts.{meaning_of};
+ghost use Rattle.script_text.specs.Today.{is_line_today};
+ghost use Rattle.script_text.specs.declared.fault.FaultKind.{FaultKind};
+ghost use Rattle.script_text.specs.declared.script.Script.{Script};
+ghost use Rattle.run_output.specs.Run.{IsRunInTurn};
+ghost use Rattle.run_output.specs.Text.{text_of as plain_text_of};
+ghost use Rattle.script_runner.specs.Sections.{are_ordered};
 ghost use Rattle.hsnap.specs.ReadStatus.{IsReadCause};
-ghost use Rattle.hs_types.specs.declared.call.Call.{Call};
-ghost use Rattle.hsnap.specs.Pages.{has_greatest_page};
-ghost use Rattle.hsnap.specs.Serial.{is_serial as is_plain_serial, most_bytes, IsScriptRead, IsDone, IsNoScript, IsTooLarge, not_run, no_end as plain_no_end, is_script_fault, is_early, is_ok_or_no_memory};
+ghost use Rattle.hsnap.specs.Serial.{is_serial as is_plain_serial, most_bytes, IsScriptRead, IsRunOfInput, IsBadScript, IsTooLarge, IsScriptOrNoMemory, is_too_large_or_no_memory, not_run, no_end as plain_no_end, is_early, is_ok_or_no_memory};
 
-use crate::ran::{End, FaultKind, Ran, Status};
-use crate::runner;
-use crate::script::{self, ScriptFault};
-use crate::text::text_of;
 use block_store::BlockStore;
 use hs_io::{InputErr, Sink, SinkErr, Source, read_all, write_all};
-use hs_types::{Call, Counts, List, NameText, NoMemory};
+use hs_types::{Counts, List, NameText, NoMemory, PageSize};
+use run_output::{End, Ran, Status, text_of};
+use script_runner::{Options, serial_script};
+use script_text::{ReadScriptFault, Script, ScriptFault};
 use std::alloc::Global;
 
 /// The most bytes that an input has.
@@ -63,9 +65,13 @@ fn no_end(alloc: Global) -> End
 }
 
 /// Reads the whole input, and the script that it means.
-fn read_script<I: Source>(alloc: Global, input: &mut I) -> Result<List<Call>, Status>
+#[tactic(auto, using(crate::proofs::Read::script_ordered, crate::proofs::Read::script_few))]
+fn read_script<I: Source>(alloc: Global, input: &mut I) -> Result<Script, Status>
     ensures script { IfOk result (IsScriptRead (I.rest input.old) (I.rest input.new)) }
-    ensures pages { IfOk result (λ calls. list_all has_greatest_page calls ≡ true) }
+    ensures today { IfOk result (λ script. list_all is_line_today script.lines ≡ true) }
+    ensures few_clients { IfOk result (λ script. script.clients ≤ 16) }
+    ensures few_lines { IfOk result (λ script. length script.lines ≤ 1000) }
+    ensures order { IfOk result (λ script. are_ordered script.clients 0 script.lines ≡ true) }
     ensures cause { IfErr result (IsReadCause (I.rest input.old) (I.rest input.new) (I.faults input.old) (I.faults input.new)) }
     ensures count { I.faults input.old ≤ I.faults input.new }
 {
@@ -75,13 +81,10 @@ fn read_script<I: Source>(alloc: Global, input: &mut I) -> Result<List<Call>, St
         Err(InputErr::Failed) => return Err(Status::ReadFault),
         Err(InputErr::NoMemory) => return Err(Status::NoMemory),
     };
-    match script::read(alloc, bytes.items()) {
-        Ok(calls) => Ok(calls),
-        Err(ScriptFault::Bad { line }) => Err(Status::Script {
-            line,
-            kind: FaultKind::Command,
-        }),
-        Err(ScriptFault::NoMemory) => Err(Status::NoMemory),
+    match script_text::read(alloc, bytes.items()) {
+        Ok(script) => Ok(script),
+        Err(ReadScriptFault::Bad(ScriptFault { line, kind })) => Err(Status::Script { line, kind }),
+        Err(ReadScriptFault::NoMemory) => Err(Status::NoMemory),
     }
 }
 
@@ -105,21 +108,28 @@ fn write_text<O: Sink>(alloc: Global, ran: &Ran, output: &mut O) -> Status
 /// Runs a script over two stores without blocks, and writes the text of the run.
 fn run_and_write<O: Sink, B: BlockStore>(
     alloc: Global,
-    calls: &List<Call>,
+    script: Script,
     output: &mut O,
     source_blocks: B,
     target_blocks: B,
 ) -> Ran
-    requires few { length calls.now ≤ 1000 }
-    requires pages { list_all has_greatest_page calls.now ≡ true }
+    requires today { list_all is_line_today script.lines ≡ true }
+    requires few_clients { script.clients ≤ 16 }
+    requires few_lines { length script.lines ≤ 1000 }
+    requires order { are_ordered script.clients 0 script.lines ≡ true }
     requires source_empty { IfSome (B.blocks source_blocks) (λ map. map ≡ []) }
     requires target_empty { IfSome (B.blocks target_blocks) (λ map. map ≡ []) }
-    ensures ok { result.status ≡ Status.Ok → IsRun (is_some (B.blocks source_blocks)) (is_some (B.blocks target_blocks)) calls.now result × Takes (O.written output.old) (O.written output.new) (plain_text_of result) }
+    ensures ok { result.status ≡ Status.Ok → IsRunInTurn (is_some (B.blocks source_blocks)) (is_some (B.blocks target_blocks)) 1000 script.clients script.lines result × Takes (O.written output.old) (O.written output.new) (plain_text_of result) }
     ensures cause { result.status ≡ Status.WriteFault → Rose (O.faults output.old) (O.faults output.new) }
     ensures late { is_early result.status ≡ false }
     ensures count { O.faults output.old ≤ O.faults output.new }
+    ensures faulted { (most : ℕ) → ((store : B) → B.faults store ≤ most) → (fault_count result.source ≤ most) × (fault_count result.target ≤ most) }
 {
-    match runner::run(alloc, calls, source_blocks, target_blocks) {
+    let options = Options {
+        page: PageSize::greatest(),
+        workers: 1,
+    };
+    match serial_script(alloc, script, &options, source_blocks, target_blocks) {
         Ok(mut ran) => {
             ran.status = write_text(alloc, &ran, output);
             ran
@@ -146,27 +156,40 @@ pub fn serial<I: Source, O: Sink, B: BlockStore>(
     // With status Ok the bytes read, to the end of the input, mean a script; the answer is a run of it in turn;
     // and what was written is the text of that run. Of a side whose store doesn't tell its blocks, the bytes that replies
     // hold are not claimed.
-    ensures ok { result.status ≡ Status.Ok → IsDone (is_some (B.blocks source_blocks)) (is_some (B.blocks target_blocks)) (I.rest input.old) (I.rest input.new) (O.written output.old) (O.written output.new) result }
+    ensures ok { result.status ≡ Status.Ok → IsRunOfInput (is_some (B.blocks source_blocks)) (is_some (B.blocks target_blocks)) (I.rest input.old) (I.rest input.new) result }
+    ensures text { result.status ≡ Status.Ok → Takes (O.written output.old) (O.written output.new) (plain_text_of result) }
 
     // The causes of the other statuses. Want of memory is free.
     ensures usage { (result.status ≡ Status.Usage) ↔ (is_plain_serial words.now ≡ false) }
-    ensures script { is_script_fault result.status ≡ true → IsNoScript (I.rest input.old) (I.rest input.new) }
+    ensures script { (line : ℕ) (kind : FaultKind) → result.status ≡ Status.Script line kind → IsBadScript (I.rest input.old) (I.rest input.new) line kind }
     ensures too_large { result.status ≡ Status.TooLarge → IsTooLarge (I.rest input.old) (I.rest input.new) }
     ensures read_fault { result.status ≡ Status.ReadFault → Rose (I.faults input.old) (I.faults input.new) }
     ensures write_fault { result.status ≡ Status.WriteFault → Rose (O.faults output.old) (O.faults output.new) }
 
     // A fault of writing comes only behind a script.
-    ensures written_scripts { result.status ≡ Status.WriteFault → (calls : List Call) × IsScriptRead (I.rest input.old) (I.rest input.new) calls }
+    ensures written_scripts { result.status ≡ Status.WriteFault → (script : Script) × IsScriptRead (I.rest input.old) (I.rest input.new) script }
 
     // With the early statuses nothing was written, and nothing was run.
     ensures unwritten { is_early result.status ≡ true → output.new ≡ output.old }
     ensures unrun { is_early result.status ≡ true → result ≡ not_run result.status }
 
     // Where the words are right, and the input is a script within its limit, and neither end fails, all is done.
-    ensures complete { (rest : List ℕ) (calls : List Call) → is_plain_serial words.now ≡ true →
-        I.rest input.old ≡ Some rest → length rest ≤ most_bytes → script_of rest ≡ Some calls →
+    ensures complete { (rest : List ℕ) (script : Script) → is_plain_serial words.now ≡ true →
+        I.rest input.old ≡ Some rest → length rest ≤ most_bytes → meaning_of rest ≡ Ok script →
         (Rose (I.faults input.old) (I.faults input.new) → ⊥) → (Rose (O.faults output.old) (O.faults output.new) → ⊥) →
         is_ok_or_no_memory result.status ≡ true }
+
+    // And a script whose first bad line is this is refused there.
+    ensures refused { (rest : List ℕ) (line : ℕ) (kind : FaultKind) → is_plain_serial words.now ≡ true →
+        I.rest input.old ≡ Some rest → length rest ≤ most_bytes → meaning_of rest ≡ Err (record { line = line; kind = kind }) →
+        (Rose (I.faults input.old) (I.faults input.new) → ⊥) → IsScriptOrNoMemory line kind result.status }
+
+    // An input of more bytes is too large.
+    ensures large { (rest : List ℕ) → is_plain_serial words.now ≡ true → I.rest input.old ≡ Some rest → most_bytes < length rest →
+        (Rose (I.faults input.old) (I.faults input.new) → ⊥) → is_too_large_or_no_memory result.status ≡ true }
+
+    // Over stores whose counts never rise no journal has an entry of a fault.
+    ensures faulted { (most : ℕ) → ((store : B) → B.faults store ≤ most) → (fault_count result.source ≤ most) × (fault_count result.target ≤ most) }
 
     ensures reads { I.faults input.old ≤ I.faults input.new }
     ensures writes { O.faults output.old ≤ O.faults output.new }
@@ -175,7 +198,7 @@ pub fn serial<I: Source, O: Sink, B: BlockStore>(
         return unrun(alloc, Status::Usage);
     }
     match read_script(alloc, input) {
-        Ok(calls) => run_and_write(alloc, &calls, output, source_blocks, target_blocks),
+        Ok(script) => run_and_write(alloc, script, output, source_blocks, target_blocks),
         Err(status) => unrun(alloc, status),
     }
 }

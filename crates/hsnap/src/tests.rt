@@ -1,9 +1,9 @@
 //! Scripts, and what the program writes: rows of text through one driver, over ends and stores in memory.
-use crate::ran::Status;
 use crate::serial::serial;
 use block_store::MemBlocks;
 use hs_io::{MemSink, MemSource};
 use hs_types::{List, NameText, NoMemory};
+use run_output::Status;
 use std::alloc::Global;
 use std::test::Fail;
 
@@ -149,7 +149,7 @@ fn gives(
 // ---- rows
 
 /// Scripts, and what they print.
-const RUNS: [(&str, &str); 5] = [
+const RUNS: [(&str, &str); 7] = [
     (
         "",
         "Ok\nsetup\n\
@@ -225,6 +225,57 @@ const RUNS: [(&str, &str); 5] = [
         tree t 1\n\
         0 dir 1 0755 0 /\n\
         .",
+    ),
+    // Sections, on both sides: caller 0 goes on in finish.
+    (
+        "s mkdir /a\n\
+        client 1\n\
+        s create /a/x\n\
+        t mkdir /b\n\
+        client 2\n\
+        s ls /a\n\
+        client 3\n\
+        finish\n\
+        s rm /a/x\n\
+        t stat /b\n",
+        "Ok\nsetup\n\
+        1 s@0 made 2\n\
+        client 1\n\
+        3 s@1 made 3\n\
+        4 t@0 made 2\n\
+        client 2\n\
+        6 s@2 page 1 end\n  file 3 x\n\
+        client 3\n\
+        finish\n\
+        9 s@2 done\n\
+        10 t@1 dir 2 0755 1 0\n\
+        journal s 3\n\
+        0 0.1 mkdir /a\n\
+        1 1.1 create /a/x\n\
+        2 0.2 rm /a/x\n\
+        journal t 1\n\
+        0 1.1 mkdir /b\n\
+        tree s 2\n\
+        0 dir 1 0755 1 /\n\
+        1 dir 2 0755 3 a\n\
+        tree t 2\n\
+        0 dir 1 0755 1 /\n\
+        1 dir 2 0755 1 b\n\
+        .",
+    ),
+    // Escapes, a fill, and what is skipped.
+    (
+        "# a comment\n\n\ts  mkdir /%C3%A9%20x\r\ns create /f\ns fill /f 3 61\ns cat /f",
+        "Ok\nsetup\n\
+        3 s@0 made 2\n\
+        4 s@1 made 3\n\
+        5 s@2 done\n\
+        6 s@3 bytes 3 end aaa\n\
+        finish\n\
+        journal s 3\n\
+        0 0.1 mkdir /%C3%A9%20x\n\
+        1 0.2 create /f\n\
+        2 0.3 append /f 3 aaa\n",
     ),
     // A file of two pages.
     (
@@ -358,60 +409,26 @@ fn faults_of_the_ends_are_told(rt: HostRuntime) -> Result<(), Fail> {
     Ok(())
 }
 
-/// Inputs whose first line is no command, each up to a bar.
-const NO_COMMANDS: &str = "s mkdir /a\
-    |s  mkdir /a\n\
-    |s mkdir  /a\n\
-    |s mkdir /a \n\
-    | s mkdir /a\n\
-    |s\tmkdir /a\n\
-    |s mkdir\n\
-    |s mkdir \n\
-    |s mkdir /a /b\n\
-    |s mv /a\n\
-    |s mv /a /b /c\n\
-    |s append /a\n\
-    |s append /a b c\n\
-    |s append /a {a*65537}\n\
-    |s cat /a /b\n\
-    |s chmod /a 9\n\
-    |s chmod /a 2000\n\
-    |s chmod /a 01777\n\
-    |s chmod /a +7\n\
-    |s mkdir /a%20b\n\
-    |s mkdir /a#\n\
-    |S mkdir /a\n\
-    |t mkdir /a\n\
-    |s touch /a\n\
-    |\n\
-    |s ls /\r\n\
-    |s ls /\u{e9}\n";
-
-#[test]
-fn a_line_that_is_no_command_is_told(rt: HostRuntime) -> Result<(), Fail> {
-    let text = "Script 1 Command\n.";
-    for script in NO_COMMANDS.split('|') {
-        assert!(rt;
-            gives(rt.alloc(), &["serial"], NONE, script, text)?,
-            "{script}"
-        );
-    }
-    Ok(())
-}
-
-/// Inputs that are refused otherwise, and what is told.
-const REFUSED: [(&str, &str); 5] = [
-    ("s mkdir /a\ns ls /", "Script 2 Command\n."),
-    ("s ls /\n\n", "Script 2 Command\n."),
+/// Inputs that are no script, and what is told.
+const BAD: [(&str, &str); 12] = [
+    ("s mkdirs /a\n", "Script 1 Command\n."),
+    ("s ls /\n\nsync /a /b x y", "Script 3 Command\n."),
+    ("s snap /a s\n", "Script 1 Command\n."),
+    ("client 2\n", "Script 1 Section\n."),
+    ("finish\nclient 1\n", "Script 2 Section\n."),
+    ("s mkdir\n", "Script 1 Words\n."),
+    ("s chmod /a 9\n", "Script 1 Number\n."),
+    ("s append /a {a*65537}\n", "Script 1 Data\n."),
+    ("s mkdir /%FF\n", "Script 1 Utf8\n."),
     ("{s ls /\n*1001}", "Script 1001 Command\n."),
     // 16,777,216 bytes, and one more.
-    ("{s ls /abcdefghi\n*1048576}", "Script 1001 Command\n."),
-    ("{s ls /abcdefghi\n*1048576}s", "TooLarge\n."),
+    ("{#bcdefghijklmno\n*1048576}", "Ok\nsetup\nfinish\n"),
+    ("{#bcdefghijklmno\n*1048576}#", "TooLarge\n."),
 ];
 
 #[test]
 fn an_input_that_is_no_script_is_refused(rt: HostRuntime) -> Result<(), Fail> {
-    for (script, text) in REFUSED {
+    for (script, text) in BAD {
         assert!(rt;
             gives(rt.alloc(), &["serial"], NONE, script, text)?,
             "{script}"

@@ -1,9 +1,0 @@
-use Rattle.std.proofs.Common.{◌≡◌, ◌++◌, string_bytes, drop}
-use Rattle.std.specs.List.{flat_map}
-use Rattle.hsnap.specs.TextParts.{ended}
-use Rattle.hsnap.specs.Text.{answered_lines}
-use Rattle.hsnap.proofs.text.write_replies.Given as goal
-
--- what is written, and the text of the replies that are left, is all
-abbrev pub invariant-loop-answered : goal.invariant-loop-answered
-invariant-loop-answered l = string_bytes l.out ++ flat_map ended (flat_map (answered_lines l.line l.side) (drop l.answered-index l.list)) ≡ string_bytes l.initial.out ++ flat_map ended (flat_map (answered_lines l.line l.side) l.list)

@@ -1,0 +1,13 @@
+pub mod Asked
+pub mod Both
+pub mod Clients
+pub mod Ends
+pub mod Faultless
+pub mod Lines
+pub mod Linked
+pub mod Order
+pub mod PageCalls
+pub mod Served
+pub mod Small
+pub mod TurnedRuns
+pub mod WholeRuns

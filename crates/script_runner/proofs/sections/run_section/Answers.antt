@@ -1,0 +1,46 @@
+use Rattle.std.specs.Prelude.{is_some}
+use Rattle.std.proofs.Common.{refl, ap, ◌∙◌}
+use Rattle.hs_types.specs.declared.ids.CallerId.{CallerId}
+use Rattle.script_runner.specs.Sections.{world}
+use Rattle.script_runner.proofs.Lines.{section_step, room_step, today_step, today_first, source_first, target_first, left_falls, section_end, past_end, section_starts, room_starts, today_starts}
+use Rattle.script_runner.proofs.sections.run_section.Goals as goal
+
+pub loop-next-init : goal.loop-next-init
+loop-next-init g c = record {
+  ran =
+      section_starts (is_some (g.B.BlockStore.blocks c.args.nodes.now.source.store)) (is_some (g.B.BlockStore.blocks c.args.nodes.now.target.store)) c.args.client.now.caller.0 c.args.section
+      (world c.args.nodes.now.source.entries c.args.nodes.now.target.entries c.args.client.now) c.args.rest.now.items c.next_in-next.new.rest.items c.next_in-next.result c.new-items.result.items c.new-items.ensures.items c.next_in-next.ensures.taken;
+  room = room_starts c.args.nodes.now.source.entries c.args.nodes.now.target.entries c.args.rest.now.items c.next_in-next.new.rest.items c.next_in-next.result c.next_in-next.ensures.taken c.requires.room;
+  today = today_starts c.args.rest.now.items c.next_in-next.new.rest.items c.next_in-next.result c.next_in-next.ensures.taken c.requires.today;
+  front = c.next_in-next.ensures.front;
+  caller = refl;
+  source_tells = refl;
+  target_tells = refl;
+}
+
+pub loop-next-preserved : goal.loop-next-preserved
+loop-next-preserved g c = record {
+  ran =
+      section_step (is_some (g.B.BlockStore.blocks c.loop-next.nodes.source.store)) (is_some (g.B.BlockStore.blocks c.loop-next.nodes.target.store)) (is_some (g.B.BlockStore.blocks c.args.nodes.now.source.store)) (is_some (g.B.BlockStore.blocks c.args.nodes.now.target.store))
+      c.args.client.now.caller.0 c.loop-next.client.caller.0 c.args.section (world c.args.nodes.now.source.entries c.args.nodes.now.target.entries c.args.client.now) (world c.loop-next.nodes.source.entries c.loop-next.nodes.target.entries c.loop-next.client) (world c.run_line.new.nodes.source.entries c.run_line.new.nodes.target.entries c.run_line.new.client)
+      c.args.rest.now.items c.loop-next.rest.items c.next_in-next-in-Some.new.rest.items c.loop-next.next c.next_in-next-in-Some.result c.loop-next.items.items c.push.new.self.items c.in-Some.line c.in_ok-item.item
+      c.loop-next.invariant.source_tells c.loop-next.invariant.target_tells (ap (λ (k : CallerId). k.0) c.loop-next.invariant.caller) c.in-Some.is c.loop-next.invariant.front c.next_in-next-in-Some.ensures.taken c.in_ok-push.ensures.items
+      c.loop-next.invariant.ran c.in_ok-item.ensures.ran;
+  room =
+      room_step c.loop-next.nodes.source.entries c.loop-next.nodes.target.entries c.run_line.new.nodes.source.entries c.run_line.new.nodes.target.entries c.loop-next.rest.items c.next_in-next-in-Some.new.rest.items c.loop-next.next c.next_in-next-in-Some.result c.in-Some.line
+      c.in-Some.is c.next_in-next-in-Some.ensures.taken c.in_ok-item.ensures.ran.few_source c.in_ok-item.ensures.ran.few_target c.loop-next.invariant.room;
+  today = today_step c.loop-next.rest.items c.next_in-next-in-Some.new.rest.items c.loop-next.next c.next_in-next-in-Some.result c.in-Some.line c.in-Some.is c.next_in-next-in-Some.ensures.taken c.loop-next.invariant.today;
+  front = c.next_in-next-in-Some.ensures.front;
+  caller = c.run_line.ensures.caller ∙ c.loop-next.invariant.caller;
+  source_tells = c.run_line.ensures.source_tells ∙ c.loop-next.invariant.source_tells;
+  target_tells = c.run_line.ensures.target_tells ∙ c.loop-next.invariant.target_tells;
+}
+
+pub returns-clause-ran : goal.returns-clause-ran
+returns-clause-ran g c =
+    section_end (is_some (g.B.BlockStore.blocks c.args.nodes.now.source.store)) (is_some (g.B.BlockStore.blocks c.args.nodes.now.target.store)) c.args.client.now.caller.0 c.args.section
+    (world c.args.nodes.now.source.entries c.args.nodes.now.target.entries c.args.client.now) (world c.loop-next.nodes.source.entries c.loop-next.nodes.target.entries c.loop-next.client)
+    c.args.rest.now.items c.loop-next.rest.items c.loop-next.next c.loop-next.items.items c.of.result c.in_default.is c.of.ensures c.loop-next.invariant.ran
+
+pub returns-clause-past : goal.returns-clause-past
+returns-clause-past g c = past_end c.args.section c.loop-next.rest.items c.loop-next.next c.in_default.is c.loop-next.invariant.front

@@ -1,0 +1,36 @@
+use Rattle.std.specs.Prelude.{is_some}
+use Rattle.std.proofs.Common.{List, [], ◌∷◌, ◌++◌, refl, ap, ◌∙◌, arith}
+use Rattle.hs_types.specs.declared.ids.CallerId.{CallerId}
+use Rattle.script_text.specs.declared.script.Section.TheVariants as sections
+use Rattle.run_output.specs.declared.ran.ClientLog.{ClientLog}
+use Rattle.script_runner.specs.declared.client.Client.{Client}
+use Rattle.script_runner.specs.Sections.{world}
+use Rattle.script_runner.proofs.Order.{section_order, finish_order, none_left}
+use Rattle.script_runner.proofs.WholeRuns.{fresh_is, sections_ran}
+use Rattle.script_runner.proofs.sections.run_sections.Goals as goal
+
+pub run_clients-requires-clause-order : goal.run_clients-requires-clause-order
+run_clients-requires-clause-order g c =
+    section_order c.args.clients c.requires.few sections.Setup c.in_ok-setup.ensures.ran.runs c.args.rest.now.items c.run_section.new.rest.items
+    refl c.in_ok-setup.ensures.ran.lines c.in_ok-setup.ensures.ran.of_section c.in_ok-setup.ensures.past c.requires.order
+
+pub returns-clause-ran : goal.returns-clause-ran
+returns-clause-ran g c =
+    sections_ran (is_some (g.B.BlockStore.blocks c.args.nodes.now.source.store)) (is_some (g.B.BlockStore.blocks c.args.nodes.now.target.store))
+    (is_some (g.B.BlockStore.blocks c.run_section.new.nodes.source.store)) (is_some (g.B.BlockStore.blocks c.run_section.new.nodes.target.store))
+    (is_some (g.B.BlockStore.blocks c.run_clients.new.nodes.source.store)) (is_some (g.B.BlockStore.blocks c.run_clients.new.nodes.target.store))
+    c.args.clients c.new-client.result.caller.0 c.run_section.new.client.caller.0 c.run_section.new.client.source_calls c.run_section.new.client.target_calls c.run_section-2.new.client.source_calls c.run_section-2.new.client.target_calls
+    c.run_section.new.nodes.source.entries c.run_section.new.nodes.target.entries c.run_clients.new.nodes.source.entries c.run_clients.new.nodes.target.entries c.run_section-2.new.nodes.source.entries c.run_section-2.new.nodes.target.entries
+    (world c.args.nodes.now.source.entries c.args.nodes.now.target.entries c.new-client.result)
+    c.args.rest.now.items c.run_section.new.rest.items c.run_clients.new.rest.items c.run_section-2.new.rest.items
+    c.in_ok-setup.setup c.in_ok-finish.finish c.log_of.result c.log_of-2.result c.push.new.self.items c.run_clients.new.logs.items c.of.result
+    c.run_section.ensures.source_tells c.run_section.ensures.target_tells (c.run_clients.ensures.source_tells ∙ c.run_section.ensures.source_tells) (c.run_clients.ensures.target_tells ∙ c.run_section.ensures.target_tells)
+    (ap (λ (k : Client). k.caller.0) c.new-client.ensures) (ap (λ (k : CallerId). k.0) c.run_section.ensures.caller ∙ ap (λ (k : Client). k.caller.0) c.new-client.ensures)
+    (fresh_is c.args.nodes.now.source.entries c.args.nodes.now.target.entries c.new-client.result (record { 0 = 0 }) c.requires.new_source c.requires.new_target c.new-client.ensures)
+    c.in_ok-setup.ensures.ran c.in_ok-run_clients.ensures.ran c.in_ok-finish.ensures.ran
+    (omega (arith, c.in_ok-finish.ensures.room.source_room)) (omega (arith, c.in_ok-finish.ensures.room.target_room))
+    (none_left c.args.clients c.requires.few c.run_section-2.new.rest.items
+    (section_order c.args.clients c.requires.few sections.Finish c.in_ok-finish.ensures.ran.runs c.run_clients.new.rest.items c.run_section-2.new.rest.items
+    refl c.in_ok-finish.ensures.ran.lines c.in_ok-finish.ensures.ran.of_section c.in_ok-finish.ensures.past (finish_order c.args.clients c.run_clients.new.rest.items c.in_ok-run_clients.ensures.order)))
+    (c.in_ok-push.ensures.items ∙ ap (λ (xs : List ClientLog). xs ++ c.log_of.result ∷ []) c.new-logs.ensures.items)
+    (c.of.ensures ∙ c.in_ok-push-2.ensures.items) c.log_of.ensures c.log_of-2.ensures
