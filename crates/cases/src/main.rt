@@ -1,0 +1,66 @@
+//! Runs each case that is named on the command line, and prints a line for each: a case is a file with a script, and what
+//! the run of it must print.
+#![tactic(auto)]
+
+mod case;
+mod compare;
+mod run;
+
+use case::{Case, expanded};
+use compare::write_difference;
+use hs_types::NoMemory;
+use run::write_run;
+use std::alloc::Global;
+use std::process::ExitCode;
+use std::{env, fs, io};
+
+/// Runs the script of a case, and writes what it prints.
+fn print_case(alloc: Global, case: &Case<'_>, out: &mut String) -> Result<(), NoMemory> {
+    let script = expanded(alloc, case.script)?;
+    write_run(alloc, case, script.as_str(), out)
+}
+
+/// Writes `ok`, or what differs between what was printed and what is wanted.
+fn compare(alloc: Global, name: &str, case: &Case<'_>, printed: &str, out: &mut String) -> Result<(), NoMemory> {
+    let lines = expanded(alloc, case.lines)?;
+    write_difference(name, lines.as_str(), case.is_whole, printed, out)
+}
+
+fn write_case(alloc: Global, name: &str, case: &Case<'_>, out: &mut String) -> Result<(), NoMemory> {
+    let mut printed = String::new(alloc);
+    print_case(alloc, case, &mut printed)?;
+    compare(alloc, name, case, printed.as_str(), out)
+}
+
+/// Runs a case, and writes `ok`, or what differs.
+fn write_verdict(alloc: Global, name: &str, text: &str, out: &mut String) -> Result<(), NoMemory> {
+    match Case::read(text) {
+        Some(case) => write_case(alloc, name, &case, out),
+        None => Ok(writeln!(out, "FAILED {name}: a case has a line `script` and a line `prints`")?),
+    }
+}
+
+/// Runs the case of a file.
+fn run_file(rt: &HostRuntime, name: &str) -> io::Result<()> {
+    let mut out = String::new(rt.alloc());
+    let text = fs::read_to_string(rt, name)?;
+    write_verdict(rt.alloc(), name, text.as_str(), &mut out)?;
+    print!(rt; "{out}")
+}
+
+fn run_files(rt: &HostRuntime) -> io::Result<()> {
+    for name in env::args(rt)?.skip(1) {
+        run_file(rt, name.as_str())?;
+    }
+    Ok(())
+}
+
+fn main(rt: HostRuntime) -> ExitCode {
+    match run_files(&rt) {
+        Ok(()) => ExitCode::SUCCESS,
+        Err(fault) => {
+            let _ = eprintln!(rt; "{fault}");
+            ExitCode::FAILURE
+        }
+    }
+}
