@@ -1,6 +1,6 @@
 use Rattle.std.proofs.Common.{arith, ◌++◌, ◌∙◌, ap, string_bytes}
-use Rattle.hsnap.proofs.TextModes.{padded-octal}
-use Rattle.hsnap.proofs.text.write_mode.Goals as goal
+use Rattle.run_output.proofs.TextModes.{padded-octal}
+use Rattle.run_output.proofs.text.write_mode.Goals as goal
 
 pub returns : goal.returns
 returns c =

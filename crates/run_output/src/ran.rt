@@ -1,9 +1,10 @@
 //! A run of a script: every reply, both journals, and both live trees at the end.
 
 ghost use Rattle.std.specs.Prelude.{◌≡◌};
-ghost use Rattle.hsnap.specs.Statuses.{exit_number};
+ghost use Rattle.run_output.specs.Statuses.{exit_number};
 
 use hs_types::{Answered, Counts, Entry, List, Side, TreeLine};
+use script_text::{FaultKind, Section};
 
 /// How a call of the program ended.
 #[derive(Clone, Copy, Debug, PartialEq, Eq)]
@@ -40,13 +41,6 @@ impl Status {
     }
 }
 
-/// What is wrong with a line of a script.
-#[derive(Clone, Copy, Debug, PartialEq, Eq)]
-pub enum FaultKind {
-    /// It is no command.
-    Command,
-}
-
 /// A run of a script.
 #[derive(Debug, Drop, PartialEq, Eq)]
 pub struct Ran {
@@ -74,14 +68,6 @@ pub struct ClientLog {
     pub items: List<LogItem>,
 }
 
-/// A part of a script: setup runs first, then the clients, and finish last.
-#[derive(Clone, Copy, Debug, PartialEq, Eq)]
-pub enum Section {
-    Setup,
-    Client(u32),
-    Finish,
-}
-
 /// What one command did, with the number of its line, from 1.
 #[derive(Debug, Drop, PartialEq, Eq)]
 pub struct LogItem {
@@ -89,8 +75,11 @@ pub struct LogItem {
     pub what: LogWhat,
 }
 
-/// The replies of a command's calls, in order, with the side that they were made to.
+/// What the calls of a command were told, with the side that they were made to.
 #[derive(Debug, Drop, PartialEq, Eq)]
 pub enum LogWhat {
+    /// The replies, in order.
     Replies { side: Side, list: List<Answered> },
+    /// No call was made, since no cursor was kept for the next page.
+    NoCursor { side: Side },
 }

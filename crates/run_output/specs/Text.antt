@@ -11,19 +11,25 @@ use Rattle.hs_types.specs.declared.refusal.Refusal.{Refusal}
 use Rattle.hs_types.specs.declared.refusal.Refusal.TheVariants.{Moved}
 use Rattle.hs_types.specs.declared.reply.Item.{Item}
 use Rattle.hs_types.specs.declared.reply.Answered.{Answered}
+use Rattle.hs_types.specs.declared.reply.DirItem.{DirItem}
+use Rattle.hs_types.specs.declared.reply.Line.{Line}
+use Rattle.hs_types.specs.declared.reply.LineKind.{LineKind}
+use Rattle.hs_types.specs.declared.reply.LineKind.TheVariants as kinds
+use Rattle.hs_types.specs.declared.name.SnapItem.{SnapItem}
+use Rattle.hs_types.specs.Names.{Names}
 use Rattle.hs_types.specs.declared.journal.EntryKind.{EntryKind}
 use Rattle.hs_types.specs.declared.journal.EntryKind.TheVariants.{Accepted, Faulted}
 use Rattle.hs_types.specs.declared.journal.Entry.{Entry}
 use Rattle.hs_types.specs.declared.shown.TreeLine.{TreeLine}
-use Rattle.hsnap.specs.declared.ran.Ran.{Ran}
-use Rattle.hsnap.specs.declared.ran.ClientLog.{ClientLog}
-use Rattle.hsnap.specs.declared.ran.Section.{Section}
-use Rattle.hsnap.specs.declared.ran.Section.TheVariants.{Setup, Client, Finish}
-use Rattle.hsnap.specs.declared.ran.LogItem.{LogItem}
-use Rattle.hsnap.specs.declared.ran.LogWhat.{LogWhat}
-use Rattle.hsnap.specs.declared.ran.LogWhat.TheVariants.{Replies}
-use Rattle.hsnap.specs.TextParts.{spaced, ended, indented, escaped, shown, mode_text}
-use Rattle.hsnap.specs.CallText.{call_text}
+use Rattle.run_output.specs.declared.ran.Ran.{Ran}
+use Rattle.run_output.specs.declared.ran.ClientLog.{ClientLog}
+use Rattle.script_text.specs.declared.script.Section.{Section}
+use Rattle.script_text.specs.declared.script.Section.TheVariants.{Setup, Client, Finish}
+use Rattle.run_output.specs.declared.ran.LogItem.{LogItem}
+use Rattle.run_output.specs.declared.ran.LogWhat.{LogWhat}
+use Rattle.run_output.specs.declared.ran.LogWhat.TheVariants.{Replies, NoCursor}
+use Rattle.run_output.specs.TextParts.{spaced, ended, indented, escaped, shown, mode_text}
+use Rattle.run_output.specs.CallText.{call_text}
 
 -- which of the two namenodes
 abbrev pub side_word : Side → List ℕ
@@ -62,7 +68,35 @@ reply_text NoMemory = codes "no memory"
 abbrev pub item_text : Item → List ℕ
 item_text item = spaced (kind_word item.is_dir ∷ decimal item.id.0 ∷ escaped item.name ∷ [])
 
--- what a reply lists, a line each; no call that is served lists snapshots, directories or lines of a report
+-- a snapshot of a directory
+abbrev pub snap_text : SnapItem → List ℕ
+snap_text item = spaced (decimal item.id.0 ∷ decimal item.tick ∷ escaped item.name ∷ [])
+
+-- a snapshottable directory, with the number of its snapshots
+abbrev pub dir_text : DirItem → List ℕ
+dir_text item = spaced (decimal item.id.0 ∷ decimal item.count ∷ escaped item.path ∷ [])
+
+-- the letter of a line of a report
+abbrev pub letter : LineKind → List ℕ
+letter kinds.Deleted = codes "-"
+letter kinds.Renamed = codes "R"
+letter kinds.Modified = codes "M"
+letter kinds.Created = codes "+"
+
+-- a path from the directory of a report, which itself is `.`
+abbrev pub relative : Names → List ℕ
+relative names = codes "." ++ flat_map (λ name. codes "/" ++ escaped name) names
+
+-- where a renamed item stands
+abbrev pub target_words : Option Names → List (List ℕ)
+target_words None = []
+target_words (Some path) = codes "->" ∷ relative path ∷ []
+
+-- a line of a report
+abbrev pub line_text : Line → List ℕ
+line_text line = spaced (letter line.kind ∷ relative line.path ∷ target_words line.to)
+
+-- what a reply lists, a line each
 abbrev pub further_lines : Reply → List (List ℕ)
 further_lines (Made id) = []
 further_lines Done = []
@@ -70,9 +104,9 @@ further_lines (Bytes bytes next) = []
 further_lines (Stat id is_dir mode stamp size) = []
 further_lines (Page items next) = map item_text items
 further_lines (SnapMade id) = []
-further_lines (Snaps dir list) = []
-further_lines (Dirs list) = []
-further_lines (Report lines next) = []
+further_lines (Snaps dir list) = map snap_text list
+further_lines (Dirs list) = map dir_text list
+further_lines (Report lines next) = map line_text lines
 further_lines (Refused why) = []
 further_lines NoMemory = []
 
@@ -91,6 +125,7 @@ answered_lines line side answered = reply_line line side answered ∷ map indent
 -- what the command on a line of the script did
 abbrev pub did_lines : ℕ → LogWhat → List (List ℕ)
 did_lines line (Replies side list) = flat_map (answered_lines line side) list
+did_lines line (NoCursor side) = spaced (decimal line ∷ side_word side ∷ codes "no cursor" ∷ []) ∷ []
 
 -- what one command did
 abbrev pub item_lines : LogItem → List (List ℕ)

@@ -3,7 +3,7 @@ use Rattle.std.proofs.Common.{◌≡◌, ℕ, ◌-◌, ◌/◌, ◌%◌, ◌^◌
 use Rattle.std.proofs.lemmas.Bool.{cases_lt}
 use Rattle.std.proofs.lemmas.Bool.Decides.{nat_tests}
 use Rattle.std.specs.Fmt.{digits, digits_onto, digit_glyph, padded_integral, format_spec, char_count}
-use Rattle.hsnap.specs.TextParts.{octal_digit, mode_text}
+use Rattle.run_output.specs.TextParts.{octal_digit, mode_text}
 
 octal_glyph : (n : ℕ) → digit_glyph false (n % 8) ≡ octal_digit n
 octal_glyph n = let low : nat_lt (n % 8) 10 ≡ true = grind (arith, nat_tests) in rw low

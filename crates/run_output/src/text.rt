@@ -3,21 +3,22 @@ ghost use Rattle.std.specs.Prelude.{◌≡◌, ◌++◌, ◌∷◌, ℕ, List, I
 ghost use Rattle.std.specs.Fmt.{decimal};
 ghost use Rattle.std.specs.List.{flat_map};
 ghost use Rattle.percent_encoding.specs.Iter.{encoded_text};
-ghost use Rattle.hsnap.specs.TextParts.{spaced, ended, indented, escaped, shown, mode_text};
+ghost use Rattle.run_output.specs.TextParts.{spaced, ended, indented, escaped, shown, mode_text};
 ghost use Rattle.hs_types.specs.declared.call.Call.TheVariants as calls;
 ghost use Rattle.hs_types.specs.declared.reply.Reply.TheVariants.{Refused};
 ghost use Rattle.hs_plain.specs.Served.{is_served};
-ghost use Rattle.hsnap.specs.CallText.{create_word, delete_word, call_text};
-ghost use Rattle.hsnap.specs.Text.{side_word, kind_word, more_or_end, reply_text, item_text, further_lines, reply_line, answered_lines, item_lines, heading, log_lines, marked, entry_line, journal_lines, node_name, dir_line, file_line, node_line, tree_lines, text_of};
+ghost use Rattle.run_output.specs.CallText.{create_word, delete_word, call_text};
+ghost use Rattle.run_output.specs.Text.{side_word, kind_word, more_or_end, reply_text, item_text, snap_text, dir_text, letter, relative, line_text, further_lines, reply_line, answered_lines, item_lines, heading, log_lines, marked, entry_line, journal_lines, node_name, dir_line, file_line, node_line, tree_lines, text_of};
 
-use crate::ran::{ClientLog, LogItem, LogWhat, Ran, Section};
+use crate::ran::{ClientLog, LogItem, LogWhat, Ran};
 use hs_types::{
-    Answered, Call, Entry, EntryKind, Item, List, Mode, Name, NoMemory, Place, ReadCursor, ReadLen,
-    Refusal, Reply, Side, TreeLine,
+    Answered, Call, DirItem, Entry, EntryKind, Item, Line, LineKind, List, Mode, Name, NoMemory,
+    Place, ReadCursor, ReadLen, Refusal, Reply, Side, SnapItem, TreeLine,
 };
 use percent_encoding::{
     AsciiSet, CONTROLS, PercentEncode, ascii_set, percent_encode, utf8_percent_encode,
 };
+use script_text::Section;
 use std::alloc::Global;
 
 /// The ASCII bytes of a text that are escaped: controls, space, `#` and `%`.
@@ -71,6 +72,10 @@ fn write_item(out: &mut String, item: &LogItem) -> Result<(), NoMemory>
 {
     match &item.what {
         LogWhat::Replies { side, list } => write_replies(out, item.line, *side, list.items()),
+        LogWhat::NoCursor { side } => {
+            writeln!(out, "{} {} no cursor", item.line, side_word(*side))?;
+            Ok(())
+        }
     }
 }
 
@@ -174,14 +179,14 @@ fn write_further_lines(out: &mut String, reply: &Reply) -> Result<(), NoMemory>
 {
     match reply {
         Reply::Page { items, .. } => write_page_items(out, items.items()),
+        Reply::Snaps { list, .. } => write_snaps(out, list.items()),
+        Reply::Dirs { list } => write_dirs(out, list.items()),
+        Reply::Report { lines, .. } => write_lines(out, lines.items()),
         Reply::Made { .. }
         | Reply::Done
         | Reply::Bytes { .. }
         | Reply::Stat { .. }
         | Reply::SnapMade { .. }
-        | Reply::Snaps { .. }
-        | Reply::Dirs { .. }
-        | Reply::Report { .. }
         | Reply::Refused(_)
         | Reply::NoMemory => Ok(()),
     }
@@ -202,6 +207,75 @@ fn write_page_item(out: &mut String, item: &Item) -> Result<(), NoMemory>
     let kind = kind_word(item.is_dir);
     let name = escaped(item.name.text());
     writeln!(out, "  {kind} {} {name}", item.id.0)?;
+    Ok(())
+}
+
+fn write_snaps(out: &mut String, list: &[SnapItem]) -> Result<(), NoMemory>
+    ensures { OnOk result (string_bytes out.new ≡ string_bytes out.old ++ flat_map ended (map indented (map snap_text list.now))) }
+{
+    for item in list {
+        write_snap(out, item)?;
+    }
+    Ok(())
+}
+
+fn write_snap(out: &mut String, item: &SnapItem) -> Result<(), NoMemory>
+    ensures { OnOk result (string_bytes out.new ≡ string_bytes out.old ++ ended (indented (snap_text item.now))) }
+{
+    let name = escaped(item.name.text());
+    writeln!(out, "  {} {} {name}", item.id.0, item.tick)?;
+    Ok(())
+}
+
+fn write_dirs(out: &mut String, list: &[DirItem]) -> Result<(), NoMemory>
+    ensures { OnOk result (string_bytes out.new ≡ string_bytes out.old ++ flat_map ended (map indented (map dir_text list.now))) }
+{
+    for item in list {
+        write_dir_item(out, item)?;
+    }
+    Ok(())
+}
+
+fn write_dir_item(out: &mut String, item: &DirItem) -> Result<(), NoMemory>
+    ensures { OnOk result (string_bytes out.new ≡ string_bytes out.old ++ ended (indented (dir_text item.now))) }
+{
+    let path = escaped(item.path.text());
+    writeln!(out, "  {} {} {path}", item.id.0, item.count)?;
+    Ok(())
+}
+
+fn write_lines(out: &mut String, lines: &[Line]) -> Result<(), NoMemory>
+    ensures { OnOk result (string_bytes out.new ≡ string_bytes out.old ++ flat_map ended (map indented (map line_text lines.now))) }
+{
+    for line in lines {
+        write_line(out, line)?;
+    }
+    Ok(())
+}
+
+/// A line of a report.
+fn write_line(out: &mut String, line: &Line) -> Result<(), NoMemory>
+    ensures { OnOk result (string_bytes out.new ≡ string_bytes out.old ++ ended (indented (line_text line.now))) }
+{
+    let letter = letter(line.kind);
+    write!(out, "  {letter} ")?;
+    write_relative(out, line.path.items())?;
+    if let Some(to) = &line.to {
+        out.push_str(" -> ")?;
+        write_relative(out, to.items())?;
+    }
+    out.push_str("\n")?;
+    Ok(())
+}
+
+/// A path from the directory of a report.
+fn write_relative(out: &mut String, names: &[Name]) -> Result<(), NoMemory>
+    ensures { OnOk result (string_bytes out.new ≡ string_bytes out.old ++ relative names.now) }
+{
+    out.push_str(".")?;
+    for name in names {
+        write!(out, "/{}", escaped(name.text()))?;
+    }
     Ok(())
 }
 
@@ -399,6 +473,18 @@ fn kind_word(is_dir: bool) -> &'static str
     if is_dir { "dir" } else { "file" }
 }
 
+/// The letter of a line of a report.
+fn letter(kind: LineKind) -> &'static str
+    ensures { result.now ≡ letter kind }
+{
+    match kind {
+        LineKind::Deleted => "-",
+        LineKind::Renamed => "R",
+        LineKind::Modified => "M",
+        LineKind::Created => "+",
+    }
+}
+
 fn create_word(over: bool) -> &'static str
     ensures { result.now ≡ create_word over }
 {
@@ -445,6 +531,3 @@ fn escaped(text: &str) -> PercentEncode<'_>
 {
     utf8_percent_encode(text, ESCAPED)
 }
-
-#[cfg(test)]
-mod tests;

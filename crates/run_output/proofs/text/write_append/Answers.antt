@@ -1,7 +1,7 @@
 use Rattle.std.proofs.Common.{◌≡◌, ℕ, ◌<◌, List, [], ◌∷◌, ◌++◌, length, codes, string_bytes, ap, sym, ◌∙◌, subst, append_assoc, arith}
 use Rattle.std.specs.Fmt.{decimal}
-use Rattle.hsnap.specs.TextParts.{spaced, ended, shown}
-use Rattle.hsnap.proofs.text.write_append.Goals as goal
+use Rattle.run_output.specs.TextParts.{spaced, ended, shown}
+use Rattle.run_output.proofs.text.write_append.Goals as goal
 
 -- no byte is shown
 none_shown : (new out path bytes : List ℕ) → length bytes < 1 → new ≡ out ++ (codes "append " ++ (path ++ 32 ∷ (decimal (length bytes) ++ 10 ∷ []))) → new ≡ out ++ ended (spaced (codes "append" ∷ path ∷ decimal (length bytes) ∷ shown bytes))

@@ -5,7 +5,7 @@ use Rattle.hs_types.specs.declared.call.Call.{Call}
 use Rattle.hs_types.specs.declared.call.Call.TheVariants as calls
 use Rattle.hs_types.specs.declared.call.Place.{Place}
 use Rattle.hs_types.specs.declared.call.Place.TheVariants as places
-use Rattle.hsnap.specs.TextParts.{spaced, escaped, shown, mode_text}
+use Rattle.run_output.specs.TextParts.{spaced, escaped, shown, mode_text}
 
 -- the command that makes a file
 abbrev pub create_word : Bool → List ℕ

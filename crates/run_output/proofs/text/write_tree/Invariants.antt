@@ -1,8 +1,8 @@
 use Rattle.std.proofs.Common.{◌≡◌, ◌++◌, string_bytes, map, drop}
 use Rattle.std.specs.List.{flat_map}
-use Rattle.hsnap.specs.TextParts.{ended}
-use Rattle.hsnap.specs.Text.{node_line}
-use Rattle.hsnap.proofs.text.write_tree.Given as goal
+use Rattle.run_output.specs.TextParts.{ended}
+use Rattle.run_output.specs.Text.{node_line}
+use Rattle.run_output.proofs.text.write_tree.Given as goal
 
 -- what is written, and the text of the nodes that are left, is all
 abbrev pub invariant-loop-node : goal.invariant-loop-node

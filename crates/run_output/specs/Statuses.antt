@@ -1,7 +1,7 @@
 -- The exit status of the program.
 use Rattle.std.specs.Prelude.{ℕ}
-use Rattle.hsnap.specs.declared.ran.Status.{Status}
-use Rattle.hsnap.specs.declared.ran.Status.TheVariants.{Ok, Usage, Script, TooLarge, ReadFault, WriteFault, NoMemory}
+use Rattle.run_output.specs.declared.ran.Status.{Status}
+use Rattle.run_output.specs.declared.ran.Status.TheVariants.{Ok, Usage, Script, TooLarge, ReadFault, WriteFault, NoMemory}
 
 -- the number that a shell sees
 abbrev pub exit_number : Status → ℕ

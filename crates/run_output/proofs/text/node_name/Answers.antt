@@ -1,6 +1,6 @@
 use Rattle.percent_encoding.specs.AsciiSet.{should_percent_encode}
 use Rattle.percent_encoding.specs.Percent.{percent_encode}
-use Rattle.hsnap.proofs.text.node_name.Goals as goal
+use Rattle.run_output.proofs.text.node_name.Goals as goal
 
 -- a slash is not in the set
 pub returns-in-None : goal.returns-in-None

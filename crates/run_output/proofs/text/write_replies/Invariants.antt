@@ -1,8 +1,8 @@
 use Rattle.std.proofs.Common.{◌≡◌, ◌++◌, string_bytes, drop}
 use Rattle.std.specs.List.{flat_map}
-use Rattle.hsnap.specs.TextParts.{ended}
-use Rattle.hsnap.specs.Text.{answered_lines}
-use Rattle.hsnap.proofs.text.write_replies.Given as goal
+use Rattle.run_output.specs.TextParts.{ended}
+use Rattle.run_output.specs.Text.{answered_lines}
+use Rattle.run_output.proofs.text.write_replies.Given as goal
 
 -- what is written, and the text of the replies that are left, is all
 abbrev pub invariant-loop-answered : goal.invariant-loop-answered

@@ -1,7 +1,7 @@
 use Rattle.std.proofs.Common.{◌≡◌, ℕ, ◌<◌, List, [], ◌∷◌, ◌++◌, length, codes, string_bytes, ap, sym, ◌∙◌, append_assoc, arith}
 use Rattle.std.specs.Fmt.{decimal}
-use Rattle.hsnap.specs.TextParts.{spaced, ended, shown}
-use Rattle.hsnap.proofs.text.write_bytes.Goals as goal
+use Rattle.run_output.specs.TextParts.{spaced, ended, shown}
+use Rattle.run_output.proofs.text.write_bytes.Goals as goal
 
 -- no byte is shown
 none_shown : (new out end bytes : List ℕ) → length bytes < 1 → new ≡ out ++ (codes "bytes " ++ (decimal (length bytes) ++ 32 ∷ (end ++ 10 ∷ []))) → new ≡ out ++ ended (spaced (codes "bytes" ∷ decimal (length bytes) ∷ end ∷ shown bytes))

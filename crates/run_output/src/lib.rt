@@ -1,0 +1,8 @@
+//! A run of a script: what it is, and its text.
+#![tactic(auto)]
+
+pub mod ran;
+pub mod text;
+
+pub use ran::{ClientLog, End, LogItem, LogWhat, Ran, Status};
+pub use text::text_of;
