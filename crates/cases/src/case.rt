@@ -29,7 +29,10 @@ impl<'t> Case<'t> {
 
     /// The words of a setting, where the head has it.
     pub fn setting(&self, name: &str) -> Option<&'t str> {
-        self.head.lines().filter_map(|line| line.strip_prefix(name)).next()
+        self.head
+            .lines()
+            .filter_map(|line| line.strip_prefix(name))
+            .next()
     }
 
     /// Whether the wanted lines are of counts too.

@@ -40,7 +40,10 @@ pub fn write_difference(
     out: &mut String,
 ) -> Result<(), NoMemory> {
     if let Some(line) = first_missing(printed, lines) {
-        return Ok(write!(out, "FAILED {name}: no line `{line}` in its place of\n{printed}")?);
+        return Ok(write!(
+            out,
+            "FAILED {name}: no line `{line}` in its place of\n{printed}"
+        )?);
     }
     if is_whole && !is_same(printed, lines) {
         return Ok(write!(out, "FAILED {name}: there are further lines in\n{printed}")?);

@@ -21,22 +21,36 @@ fn print_case(alloc: Global, case: &Case<'_>, out: &mut String) -> Result<(), No
 }
 
 /// Writes `ok`, or what differs between what was printed and what is wanted.
-fn compare(alloc: Global, name: &str, case: &Case<'_>, printed: &str, out: &mut String) -> Result<(), NoMemory> {
+fn judge(
+    alloc: Global,
+    name: &str,
+    case: &Case<'_>,
+    printed: &str,
+    out: &mut String,
+) -> Result<(), NoMemory> {
     let lines = expanded(alloc, case.lines)?;
     write_difference(name, lines.as_str(), case.is_whole, printed, out)
 }
 
-fn write_case(alloc: Global, name: &str, case: &Case<'_>, out: &mut String) -> Result<(), NoMemory> {
+fn write_case(
+    alloc: Global,
+    name: &str,
+    case: &Case<'_>,
+    out: &mut String,
+) -> Result<(), NoMemory> {
     let mut printed = String::new(alloc);
     print_case(alloc, case, &mut printed)?;
-    compare(alloc, name, case, printed.as_str(), out)
+    judge(alloc, name, case, printed.as_str(), out)
 }
 
 /// Runs a case, and writes `ok`, or what differs.
 fn write_verdict(alloc: Global, name: &str, text: &str, out: &mut String) -> Result<(), NoMemory> {
     match Case::read(text) {
         Some(case) => write_case(alloc, name, &case, out),
-        None => Ok(writeln!(out, "FAILED {name}: a case has a line `script` and a line `prints`")?),
+        None => Ok(writeln!(
+            out,
+            "FAILED {name}: a case has a line `script` and a line `prints`"
+        )?),
     }
 }
 
@@ -44,8 +58,10 @@ fn write_verdict(alloc: Global, name: &str, text: &str, out: &mut String) -> Res
 fn run_file(rt: &HostRuntime, name: &str) -> io::Result<()> {
     let mut out = String::new(rt.alloc());
     let text = fs::read_to_string(rt, name)?;
-    write_verdict(rt.alloc(), name, text.as_str(), &mut out)?;
-    print!(rt; "{out}")
+    match write_verdict(rt.alloc(), name, text.as_str(), &mut out) {
+        Ok(()) => print!(rt; "{out}"),
+        Err(NoMemory) => println!(rt; "FAILED {name}: no memory"),
+    }
 }
 
 fn run_files(rt: &HostRuntime) -> io::Result<()> {

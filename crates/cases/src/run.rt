@@ -25,8 +25,12 @@ fn store(alloc: Global, fails: Option<&str>) -> Result<MemBlocks, NoMemory> {
 }
 
 fn page_of(case: &Case<'_>) -> PageSize {
-    let entries = case.setting("page ").and_then(|text| text.parse::<u16>().ok());
-    entries.and_then(|entries| PageSize::new(entries)).unwrap_or(PageSize::greatest())
+    let entries = case
+        .setting("page ")
+        .and_then(|text| text.parse::<u16>().ok());
+    entries
+        .and_then(|entries| PageSize::new(entries))
+        .unwrap_or(PageSize::greatest())
 }
 
 fn options_of(case: &Case<'_>) -> Options {
@@ -47,7 +51,12 @@ fn run_on(
 
 fn run(alloc: Global, case: &Case<'_>, script: Script) -> Result<Ran, NoMemory> {
     let source = store(alloc, case.setting("source fails at "))?;
-    run_on(case, script, source, store(alloc, case.setting("target fails at ")))
+    run_on(
+        case,
+        script,
+        source,
+        store(alloc, case.setting("target fails at ")),
+    )
 }
 
 fn write_counts(out: &mut String, side: &str, counts: &Counts) -> Result<(), NoMemory> {
@@ -78,13 +87,23 @@ fn write_ran(alloc: Global, case: &Case<'_>, ran: &Ran, out: &mut String) -> Res
     Ok(())
 }
 
-fn write_script(alloc: Global, case: &Case<'_>, script: Script, out: &mut String) -> Result<(), NoMemory> {
+fn write_script(
+    alloc: Global,
+    case: &Case<'_>,
+    script: Script,
+    out: &mut String,
+) -> Result<(), NoMemory> {
     let ran = run(alloc, case, script)?;
     write_ran(alloc, case, &ran, out)
 }
 
 /// What the run of a case prints; of a script that isn't read the first bad line.
-pub fn write_run(alloc: Global, case: &Case<'_>, script: &str, out: &mut String) -> Result<(), NoMemory> {
+pub fn write_run(
+    alloc: Global,
+    case: &Case<'_>,
+    script: &str,
+    out: &mut String,
+) -> Result<(), NoMemory> {
     match script_text::read(alloc, script.as_bytes()) {
         Ok(script) => write_script(alloc, case, script, out),
         Err(ReadScriptFault::Bad(fault)) => Ok(writeln!(out, "{fault}")?),
