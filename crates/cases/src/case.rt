@@ -14,6 +14,16 @@ pub struct Case<'t> {
 }
 
 impl<'t> Case<'t> {
+    /// A script that prints just these lines.
+    pub fn of(script: &'t str, lines: &'t str) -> Case<'t> {
+        Case {
+            head: "",
+            script,
+            is_whole: true,
+            lines,
+        }
+    }
+
     /// The head, a line `script`, the script, a line `prints` or `prints all`, and the lines.
     pub fn read(text: &'t str) -> Option<Case<'t>> {
         let (head, rest) = text.split_once("\nscript\n")?;

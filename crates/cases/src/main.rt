@@ -43,24 +43,35 @@ fn write_case(
     judge(alloc, name, case, printed.as_str(), out)
 }
 
-/// Runs a case, and writes `ok`, or what differs.
-fn write_verdict(alloc: Global, name: &str, text: &str, out: &mut String) -> Result<(), NoMemory> {
-    match Case::read(text) {
-        Some(case) => write_case(alloc, name, &case, out),
-        None => Ok(writeln!(
-            out,
-            "FAILED {name}: a case has a line `script` and a line `prints`"
-        )?),
+/// Runs a case, and prints `ok`, or what differs.
+fn print_verdict(rt: &HostRuntime, name: &str, case: &Case<'_>) -> io::Result<()> {
+    let mut out = String::new(rt.alloc());
+    match write_case(rt.alloc(), name, case, &mut out) {
+        Ok(()) => print!(rt; "{out}"),
+        Err(NoMemory) => println!(rt; "FAILED {name}: no memory"),
     }
 }
 
-/// Runs the case of a file.
-fn run_file(rt: &HostRuntime, name: &str) -> io::Result<()> {
-    let mut out = String::new(rt.alloc());
+/// Runs a case that stands in one file.
+fn run_case(rt: &HostRuntime, name: &str) -> io::Result<()> {
     let text = fs::read_to_string(rt, name)?;
-    match write_verdict(rt.alloc(), name, text.as_str(), &mut out) {
-        Ok(()) => print!(rt; "{out}"),
-        Err(NoMemory) => println!(rt; "FAILED {name}: no memory"),
+    match Case::read(text.as_str()) {
+        Some(case) => print_verdict(rt, name, &case),
+        None => println!(rt; "FAILED {name}: a case has a line `script` and a line `prints`"),
+    }
+}
+
+/// Runs a script that has what it prints in a file beside it.
+fn run_example(rt: &HostRuntime, name: &str, stem: &str) -> io::Result<()> {
+    let script = fs::read_to_string(rt, name)?;
+    let lines = fs::read_to_string(rt, format!(in rt.alloc(); "{stem}.expected")?)?;
+    print_verdict(rt, name, &Case::of(script.as_str(), lines.as_str()))
+}
+
+fn run_file(rt: &HostRuntime, name: &str) -> io::Result<()> {
+    match name.strip_suffix(".hsnap") {
+        Some(stem) => run_example(rt, name, stem),
+        None => run_case(rt, name),
     }
 }
 

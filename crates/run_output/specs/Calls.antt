@@ -10,12 +10,12 @@ use Rattle.hs_types.specs.declared.call.ReportCursor.{ReportCursor}
 use Rattle.hs_types.specs.declared.reply.Reply.{Reply}
 use Rattle.hs_types.specs.declared.reply.Reply.TheVariants as replies
 use Rattle.hs_plain.specs.Legal.{Said}
-use Rattle.script_text.specs.declared.script.Command.{Command}
-use Rattle.script_text.specs.declared.script.Command.TheVariants as commands
-use Rattle.script_text.specs.declared.script.Pages.{Pages}
-use Rattle.script_text.specs.declared.script.Pages.TheVariants as pages
-use Rattle.script_text.specs.declared.script.PagesKind.{PagesKind}
-use Rattle.script_text.specs.declared.script.PagesKind.TheVariants as kinds
+use Rattle.script_text.specs.declared.command.Command.{Command}
+use Rattle.script_text.specs.declared.command.Command.TheVariants as commands
+use Rattle.script_text.specs.declared.command.Pages.{Pages}
+use Rattle.script_text.specs.declared.command.Pages.TheVariants as pages
+use Rattle.script_text.specs.declared.command.PagesKind.{PagesKind}
+use Rattle.script_text.specs.declared.command.PagesKind.TheVariants as kinds
 
 -- ---- pages
 

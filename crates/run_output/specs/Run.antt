@@ -5,6 +5,7 @@ use Rattle.hs_types.specs.declared.ids.CallerId.{CallerId}
 use Rattle.hs_types.specs.declared.ids.Side.{Side}
 use Rattle.hs_types.specs.declared.ids.Side.TheVariants.{Source, Target}
 use Rattle.hs_types.specs.declared.journal.Entry.{Entry}
+use Rattle.hs_types.specs.declared.reply.Answered.{Answered}
 use Rattle.hs_types.specs.Limits.{journal_limit}
 use Rattle.hs_plain.specs.Legal.{Said, IsLegalCall, numbers_rise}
 use Rattle.hs_plain.specs.Replay.{plain_after, is_proper}
@@ -46,13 +47,13 @@ pub record AreLines (clients : ℕ) (script : List ScriptLine) (runs : Sections 
   pub finish : are_in sections.Finish runs.finish ≡ true
 
 -- what a line that asks one side logs: its replies, or that no cursor was kept for it
-abbrev pub what_of : Side → List Said → LogWhat
+abbrev pub what_of : Side → List Answered → LogWhat
 what_of side [] = NoCursor side
-what_of side (said ∷ more) = Replies side (map (λ s. s.told) (said ∷ more))
+what_of side (told ∷ more) = Replies side (told ∷ more)
 
 abbrev pub logged : ℕ → Option Side → List Said → List LogItem
 logged line None said = []
-logged line (Some side) said = record { line = line; what = what_of side said } ∷ []
+logged line (Some side) said = record { line = line; what = what_of side (map (λ s. s.told) said) } ∷ []
 
 -- an item for each line
 abbrev pub items_of : List LineRun → List LogItem

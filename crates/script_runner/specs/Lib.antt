@@ -1,0 +1,4 @@
+pub mod InTurn
+pub mod Links
+pub mod Pages
+pub mod Sections

@@ -1,0 +1,261 @@
+//! The sections of a script, run one after the other.
+ghost use Rattle.std.specs.Prelude.{◌≡◌, ◌≤◌, ◌+◌, ◌++◌, ◌∷◌, [], true, false, is_some, length, IfOk, IfSome, IfNone, OnOk};
+ghost use Rattle.std.specs.Option.{option_to_list};
+ghost use Rattle.std.specs.List.{list_all};
+ghost use Rattle.script_text.specs.Today.{is_command_today, is_line_today};
+ghost use Rattle.run_output.specs.Calls.{side_of as plain_side_of};
+ghost use Rattle.run_output.specs.Run.{is_section as plain_is_section, what_of as plain_what_of};
+ghost use Rattle.script_runner.specs.Sections.{world, IsCommandRun, IsLineRun, IsSectionRun, is_past, HasRoom, are_ordered, IsClientRun, AreClientsTo, AreSectionsRun};
+
+use crate::client::Client;
+use crate::pages::ask_command;
+use block_store::BlockStore;
+use hs_types::{Answered, CallerId, List, NoMemory, PageSize, Side};
+use namenode_write::Namenode;
+use run_output::{ClientLog, LogItem, LogWhat};
+use script_text::{Command, ScriptLine, Section};
+use std::alloc::Global;
+use std::collections::VecDeque;
+
+/// The two namenodes of a run.
+#[derive(Drop)]
+pub(crate) struct Nodes<B: BlockStore> {
+    pub(crate) source: Namenode<B>,
+    pub(crate) target: Namenode<B>,
+}
+
+/// The side that a command of today goes to.
+fn side_of(command: &Command) -> Side
+    requires { is_command_today command.now ≡ true }
+    ensures { plain_side_of command.now ≡ Some result }
+{
+    match command {
+        Command::Call { side, .. }
+        | Command::All { side, .. }
+        | Command::First { side, .. }
+        | Command::More { side, .. } => *side,
+        Command::Sync { .. } => unreachable!(),
+    }
+}
+
+/// Makes the calls of a command, on its side.
+fn run_command<B: BlockStore>(
+    alloc: Global,
+    nodes: &mut Nodes<B>,
+    client: &mut Client,
+    page: PageSize,
+    command: Command,
+) -> Result<List<Answered>, NoMemory>
+    requires few_source { length nodes.old.source.entries ≤ 999 }
+    requires few_target { length nodes.old.target.entries ≤ 999 }
+    requires page { page ≡ 1000 }
+    requires today { is_command_today command ≡ true }
+    ensures ran { IfOk result (IsCommandRun (is_some (B.blocks nodes.old.source.store)) (is_some (B.blocks nodes.old.target.store)) client.old.caller.0 (world nodes.old.source.entries nodes.old.target.entries client.old) (world nodes.new.source.entries nodes.new.target.entries client.new) command) }
+    ensures caller { client.new.caller ≡ client.old.caller }
+    ensures source_tells { is_some (B.blocks nodes.new.source.store) ≡ is_some (B.blocks nodes.old.source.store) }
+    ensures target_tells { is_some (B.blocks nodes.new.target.store) ≡ is_some (B.blocks nodes.old.target.store) }
+{
+    match side_of(&command) {
+        Side::Source => ask_command(
+            alloc,
+            &mut nodes.source,
+            client.caller,
+            &mut client.source_calls,
+            page,
+            command,
+        ),
+        Side::Target => ask_command(
+            alloc,
+            &mut nodes.target,
+            client.caller,
+            &mut client.target_calls,
+            page,
+            command,
+        ),
+    }
+}
+
+/// What a line logs.
+fn what_of(side: Side, list: List<Answered>) -> LogWhat
+    ensures { result ≡ plain_what_of side list }
+{
+    if list.is_empty() {
+        LogWhat::NoCursor { side }
+    } else {
+        LogWhat::Replies { side, list }
+    }
+}
+
+/// Runs a line of the script.
+fn run_line<B: BlockStore>(
+    alloc: Global,
+    nodes: &mut Nodes<B>,
+    client: &mut Client,
+    page: PageSize,
+    line: ScriptLine,
+) -> Result<LogItem, NoMemory>
+    requires few_source { length nodes.old.source.entries ≤ 999 }
+    requires few_target { length nodes.old.target.entries ≤ 999 }
+    requires page { page ≡ 1000 }
+    requires today { is_line_today line ≡ true }
+    ensures ran { IfOk result (IsLineRun (is_some (B.blocks nodes.old.source.store)) (is_some (B.blocks nodes.old.target.store)) client.old.caller.0 (world nodes.old.source.entries nodes.old.target.entries client.old) (world nodes.new.source.entries nodes.new.target.entries client.new) line) }
+    ensures caller { client.new.caller ≡ client.old.caller }
+    ensures source_tells { is_some (B.blocks nodes.new.source.store) ≡ is_some (B.blocks nodes.old.source.store) }
+    ensures target_tells { is_some (B.blocks nodes.new.target.store) ≡ is_some (B.blocks nodes.old.target.store) }
+{
+    let ScriptLine { line, command, .. } = line;
+    let side = side_of(&command);
+    let list = run_command(alloc, nodes, client, page, command)?;
+    Ok(LogItem {
+        line,
+        what: what_of(side, list),
+    })
+}
+
+/// Whether these are one section.
+fn is_section(a: Section, b: Section) -> bool
+    ensures { result ≡ plain_is_section a b }
+{
+    match (a, b) {
+        (Section::Setup, Section::Setup) | (Section::Finish, Section::Finish) => true,
+        (Section::Client(a), Section::Client(b)) => a == b,
+        _ => false,
+    }
+}
+
+/// Whether the first line is of the section.
+fn is_first_in(rest: &VecDeque<ScriptLine>, section: Section) -> bool
+    ensures { is_past section rest.now.items ≡ (if result then false else true) }
+{
+    match rest.front() {
+        Some(line) => is_section(line.section, section),
+        None => false,
+    }
+}
+
+/// Takes the first line, where it is of the section.
+fn next_in(rest: &mut VecDeque<ScriptLine>, section: Section) -> Option<ScriptLine>
+    ensures taken { rest.old.items ≡ option_to_list result ++ rest.new.items }
+    ensures some { IfSome result (λ line. plain_is_section line.section section ≡ true) }
+    ensures none { IfNone result (is_past section rest.new.items ≡ true) }
+{
+    if is_first_in(rest, section) {
+        rest.pop_front()
+    } else {
+        None
+    }
+}
+
+/// Runs the lines of a section, which stand at the front of those that are left.
+fn run_section<B: BlockStore>(
+    alloc: Global,
+    nodes: &mut Nodes<B>,
+    client: &mut Client,
+    page: PageSize,
+    section: Section,
+    rest: &mut VecDeque<ScriptLine>,
+) -> Result<List<LogItem>, NoMemory>
+    requires room { HasRoom nodes.old.source.entries nodes.old.target.entries rest.old.items }
+    requires page { page ≡ 1000 }
+    requires today { list_all is_line_today rest.old.items ≡ true }
+    ensures ran { IfOk result (IsSectionRun (is_some (B.blocks nodes.old.source.store)) (is_some (B.blocks nodes.old.target.store)) client.old.caller.0 section (world nodes.old.source.entries nodes.old.target.entries client.old) (world nodes.new.source.entries nodes.new.target.entries client.new) rest.old.items rest.new.items) }
+    ensures past { OnOk result (is_past section rest.new.items ≡ true) }
+    ensures room { OnOk result (HasRoom nodes.new.source.entries nodes.new.target.entries rest.new.items) }
+    ensures today { OnOk result (list_all is_line_today rest.new.items ≡ true) }
+    ensures caller { client.new.caller ≡ client.old.caller }
+    ensures source_tells { is_some (B.blocks nodes.new.source.store) ≡ is_some (B.blocks nodes.old.source.store) }
+    ensures target_tells { is_some (B.blocks nodes.new.target.store) ≡ is_some (B.blocks nodes.old.target.store) }
+{
+    let mut items = Vec::new(alloc);
+    while let Some(line) = next_in(rest, section) {
+        items.push(run_line(alloc, nodes, client, page, line)?)?;
+    }
+    Ok(List::of(items))
+}
+
+/// Runs a client's section, by a caller of its own, and logs it.
+fn run_client<B: BlockStore>(
+    alloc: Global,
+    nodes: &mut Nodes<B>,
+    page: PageSize,
+    number: u32,
+    rest: &mut VecDeque<ScriptLine>,
+) -> Result<ClientLog, NoMemory>
+    requires room { HasRoom nodes.old.source.entries nodes.old.target.entries rest.old.items }
+    requires page { page ≡ 1000 }
+    requires today { list_all is_line_today rest.old.items ≡ true }
+    ensures ran { IfOk result (IsClientRun (is_some (B.blocks nodes.old.source.store)) (is_some (B.blocks nodes.old.target.store)) number nodes.old.source.entries nodes.old.target.entries nodes.new.source.entries nodes.new.target.entries rest.old.items rest.new.items) }
+    ensures past { OnOk result (is_past (Section.Client number) rest.new.items ≡ true) }
+    ensures room { OnOk result (HasRoom nodes.new.source.entries nodes.new.target.entries rest.new.items) }
+    ensures today { OnOk result (list_all is_line_today rest.new.items ≡ true) }
+    ensures source_tells { is_some (B.blocks nodes.new.source.store) ≡ is_some (B.blocks nodes.old.source.store) }
+    ensures target_tells { is_some (B.blocks nodes.new.target.store) ≡ is_some (B.blocks nodes.old.target.store) }
+{
+    let mut client = Client::new(CallerId(number));
+    let section = Section::Client(number);
+    let items = run_section(alloc, nodes, &mut client, page, section, rest)?;
+    Ok(log_of(section, items))
+}
+
+/// Runs the clients' sections, by rising numbers, and logs them.
+fn run_clients<B: BlockStore>(
+    alloc: Global,
+    nodes: &mut Nodes<B>,
+    page: PageSize,
+    clients: u32,
+    rest: &mut VecDeque<ScriptLine>,
+    logs: &mut Vec<ClientLog>,
+) -> Result<(), NoMemory>
+    requires few { clients ≤ 16 }
+    requires room { HasRoom nodes.old.source.entries nodes.old.target.entries rest.old.items }
+    requires page { page ≡ 1000 }
+    requires today { list_all is_line_today rest.old.items ≡ true }
+    requires order { are_ordered clients 1 rest.old.items ≡ true }
+    ensures ran { OnOk result (AreClientsTo (is_some (B.blocks nodes.old.source.store)) (is_some (B.blocks nodes.old.target.store)) clients nodes.old.source.entries nodes.old.target.entries nodes.new.source.entries nodes.new.target.entries rest.old.items rest.new.items logs.old.items logs.new.items) }
+    ensures room { OnOk result (HasRoom nodes.new.source.entries nodes.new.target.entries rest.new.items) }
+    ensures today { OnOk result (list_all is_line_today rest.new.items ≡ true) }
+    ensures order { OnOk result (are_ordered clients (clients + 1) rest.new.items ≡ true) }
+    ensures source_tells { is_some (B.blocks nodes.new.source.store) ≡ is_some (B.blocks nodes.old.source.store) }
+    ensures target_tells { is_some (B.blocks nodes.new.target.store) ≡ is_some (B.blocks nodes.old.target.store) }
+{
+    for index in 0..clients {
+        logs.push(run_client(alloc, nodes, page, index + 1, rest)?)?;
+    }
+    Ok(())
+}
+
+/// Runs all lines of a script of so many clients, section by section. Caller 0 runs setup and finish, and client n is
+/// caller n.
+pub(crate) fn run_sections<B: BlockStore>(
+    alloc: Global,
+    nodes: &mut Nodes<B>,
+    page: PageSize,
+    clients: u32,
+    rest: &mut VecDeque<ScriptLine>,
+) -> Result<List<ClientLog>, NoMemory>
+    requires new_source { nodes.old.source.entries ≡ [] }
+    requires new_target { nodes.old.target.entries ≡ [] }
+    requires few { clients ≤ 16 }
+    requires few_lines { length rest.old.items ≤ 1000 }
+    requires page { page ≡ 1000 }
+    requires today { list_all is_line_today rest.old.items ≡ true }
+    requires order { are_ordered clients 0 rest.old.items ≡ true }
+    ensures ran { IfOk result (AreSectionsRun (is_some (B.blocks nodes.old.source.store)) (is_some (B.blocks nodes.old.target.store)) clients rest.old.items nodes.new.source.entries nodes.new.target.entries) }
+    ensures source_tells { is_some (B.blocks nodes.new.source.store) ≡ is_some (B.blocks nodes.old.source.store) }
+    ensures target_tells { is_some (B.blocks nodes.new.target.store) ≡ is_some (B.blocks nodes.old.target.store) }
+{
+    let mut logs = Vec::new(alloc);
+    let mut client = Client::new(CallerId(0));
+    let setup = run_section(alloc, nodes, &mut client, page, Section::Setup, rest)?;
+    logs.push(log_of(Section::Setup, setup))?;
+    run_clients(alloc, nodes, page, clients, rest, &mut logs)?;
+    let finish = run_section(alloc, nodes, &mut client, page, Section::Finish, rest)?;
+    logs.push(log_of(Section::Finish, finish))?;
+    Ok(List::of(logs))
+}
+
+fn log_of(section: Section, items: List<LogItem>) -> ClientLog
+    ensures { result ≡ record { section = section; items = items } }
+{
+    ClientLog { section, items }
+}
