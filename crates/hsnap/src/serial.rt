@@ -10,7 +10,7 @@ ghost use Rattle.script_text.specs.declared.fault.FaultKind.{FaultKind};
 ghost use Rattle.script_text.specs.declared.script.Script.{Script};
 ghost use Rattle.run_output.specs.Run.{IsRunInTurn};
 ghost use Rattle.run_output.specs.Text.{text_of as plain_text_of};
-ghost use Rattle.script_runner.specs.Sections.{are_ordered};
+ghost use Rattle.script_text.specs.Order.{are_ordered};
 ghost use Rattle.hsnap.specs.ReadStatus.{IsReadCause};
 ghost use Rattle.hsnap.specs.Serial.{is_serial as is_plain_serial, most_bytes, IsScriptRead, IsRunOfInput, IsBadScript, IsTooLarge, IsScriptOrNoMemory, is_too_large_or_no_memory, not_run, no_end as plain_no_end, is_early, is_ok_or_no_memory};
 
@@ -65,7 +65,6 @@ fn no_end(alloc: Global) -> End
 }
 
 /// Reads the whole input, and the script that it means.
-#[tactic(auto, using(crate::proofs::Read::script_ordered, crate::proofs::Read::script_few))]
 fn read_script<I: Source>(alloc: Global, input: &mut I) -> Result<Script, Status>
     ensures script { IfOk result (IsScriptRead (I.rest input.old) (I.rest input.new)) }
     ensures today { IfOk result (λ script. list_all is_line_today script.lines ≡ true) }

@@ -7,7 +7,8 @@ use Rattle.script_text.specs.declared.script.Section.{Section}
 use Rattle.script_text.specs.declared.script.Section.TheVariants as sections
 use Rattle.run_output.specs.Steps.{LineRun}
 use Rattle.run_output.specs.Run.{is_section, are_in}
-use Rattle.script_runner.specs.Sections.{is_past, rank, is_among, are_ordered}
+use Rattle.script_text.specs.Order.{rank, is_among, are_ordered}
+use Rattle.script_runner.specs.Sections.{is_past}
 use Rattle.script_runner.proofs.Both.{both_first, both_second, both_yes}
 
 -- one section has one rank

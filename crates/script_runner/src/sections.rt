@@ -5,7 +5,8 @@ ghost use Rattle.std.specs.List.{list_all};
 ghost use Rattle.script_text.specs.Today.{is_command_today, is_line_today};
 ghost use Rattle.run_output.specs.Calls.{side_of as plain_side_of};
 ghost use Rattle.run_output.specs.Run.{is_section as plain_is_section, what_of as plain_what_of};
-ghost use Rattle.script_runner.specs.Sections.{world, IsCommandRun, IsLineRun, IsSectionRun, is_past, IsFront, HasRoom, are_ordered, IsClientRun, AreClientsTo, AreSectionsRun};
+ghost use Rattle.script_text.specs.Order.{are_ordered};
+ghost use Rattle.script_runner.specs.Sections.{world, IsCommandRun, IsLineRun, IsSectionRun, is_past, IsFront, HasRoom, IsClientRun, AreClientsTo, AreSectionsRun};
 
 use crate::client::Client;
 use crate::pages::ask_command;

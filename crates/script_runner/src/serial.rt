@@ -4,7 +4,7 @@ ghost use Rattle.std.specs.List.{list_all};
 ghost use Rattle.script_text.specs.Today.{is_line_today};
 ghost use Rattle.run_output.specs.Run.{IsEndOf, IsRunInTurn};
 ghost use Rattle.namenode_write.specs.Consistent.{fault_count};
-ghost use Rattle.script_runner.specs.Sections.{are_ordered};
+ghost use Rattle.script_text.specs.Order.{are_ordered};
 
 use crate::sections::{Nodes, run_sections};
 use block_store::BlockStore;

@@ -2,7 +2,8 @@ use Rattle.std.proofs.Common.{◌≡◌, ◌+◌, true}
 use Rattle.std.specs.Prelude.{is_some}
 use Rattle.std.specs.List.{list_all}
 use Rattle.script_text.specs.Today.{is_line_today}
-use Rattle.script_runner.specs.Sections.{HasRoom, are_ordered, AreClientsTo}
+use Rattle.script_text.specs.Order.{are_ordered}
+use Rattle.script_runner.specs.Sections.{HasRoom, AreClientsTo}
 use Rattle.script_runner.proofs.sections.run_clients.Given as goal
 
 -- the clients so far were run
