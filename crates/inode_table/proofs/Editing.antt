@@ -7,7 +7,8 @@ use Rattle.dir_changes.specs.Entries.{Entries, id_at, without_name}
 use Rattle.dir_changes.specs.Undo.{ListDiff}
 use Rattle.dir_changes.specs.History.{DirHistory, Past, Marks, last_number, last_from, started, removed, removed_as, change_last, note_removed, children_at, marks_at}
 use Rattle.dir_changes.specs.Sound.{IsSound}
-use Rattle.dir_changes.proofs.ReadLaws.{children_at-started, marks_at-started, can_undo_all-started, rising-append, marks_at-current}
+use Rattle.dir_changes.proofs.ReadLaws.{children_at-started, marks_at-started, marks_at-current}
+use Rattle.dir_changes.proofs.OrderLaws.{sound-started}
 use Rattle.dir_changes.proofs.DirLaws.{children_at-removed_as, marks_at-removed_as}
 use Rattle.inode_table.specs.RowHistory.{Dir, last_after, dir_node}
 use Rattle.inode_table.specs.Edited.{RowEdited, begun, stamp_dir}
@@ -33,11 +34,7 @@ record Begins (number : ℕ) (dir middle : DirHistory) : Type 0 where
 begins : (number : ℕ) (dir : DirHistory) → IsSound dir → Begins number dir (begun number dir)
 begins number dir sound = elim (nat_lt (last_number dir) number) as (λ b. nat_lt (last_number dir) number ≡ b → Begins number dir (cond b (started (record { 0 = number }) dir) dir)) [
   | true ↦ λ t. record {
-    sound = record {
-      rising = rising-append 0 dir.records (record { number = record { 0 = number }; marks = dir.marks; diff = record { created = []; deleted = [] } }) sound.rising (grind (arith, nat_tests));
-      in_order = sound.in_order;
-      undoable = can_undo_all-started dir (record { 0 = number }) sound.undoable;
-    };
+    sound = sound-started dir sound (record { 0 = number }) (grind (arith, nat_tests));
     last = last_from-append 0 dir.records (record { number = record { 0 = number }; marks = dir.marks; diff = record { created = []; deleted = [] } }) ∙ sym (ap (λ b. cond b number (last_number dir)) t);
     children = refl;
     marks = refl;
