@@ -5,6 +5,7 @@ pub mod Deeds
 pub mod Edited
 pub mod FromValid
 pub mod FrozenBytes
+pub mod Joined
 pub mod Listed
 pub mod Marks
 pub mod Names

@@ -17,8 +17,9 @@ ghost use Rattle.inode_table.specs.Once.{OnceRemoveLaw, OnceAddLaw};
 ghost use Rattle.inode_table.specs.Acyclic.{FewerEndLaw, AddEndLaw};
 ghost use Rattle.inode_table.specs.FromValid.{FromValidLaw, TopLaw};
 ghost use Rattle.inode_table.specs.FrozenBytes.{FrozenBytesLaw};
+ghost use Rattle.inode_table.specs.Joined.{RowLaw, MarksLaw, LastLaw};
 
-/// RowHistory that show what they showed read as before.
+/// Rows that show what they showed read as before.
 pub fn alike()
     ensures { AlikeLaw }
 {}
@@ -231,4 +232,19 @@ pub fn top()
 /// A file whose blocks keep their first bytes has the same bytes.
 pub fn frozen_bytes()
     ensures { FrozenBytesLaw }
+{}
+
+/// A row of a table in memory stands for a row of the plain table.
+pub fn row_told()
+    ensures { RowLaw }
+{}
+
+/// And has its marks.
+pub fn marks_told()
+    ensures { MarksLaw }
+{}
+
+/// The last live id of a directory is the plain state's.
+pub fn last_told()
+    ensures { LastLaw }
 {}
