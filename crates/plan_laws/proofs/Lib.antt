@@ -17,3 +17,10 @@ pub mod NewItems
 pub mod Listed
 pub mod Sorted
 pub mod Pairs
+pub mod Bridge
+pub mod Roots
+pub mod Near
+pub mod Apart
+pub mod Steps
+pub mod Equal
+pub mod Journal

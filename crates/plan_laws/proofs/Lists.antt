@@ -54,7 +54,7 @@ pub same-here : (a : Names) → same_path a a ≡ true
 same-here a = (slice_eq-Decides bytes_eq-Decides a a (same_path a a) refl).1 refl
 
 -- of a path and one below it only the rest tells
-same-more : (p r : Names) → same_path p (p ++ r) ≡ same_path [] r
+pub same-more : (p r : Names) → same_path p (p ++ r) ≡ same_path [] r
 same-more [] r = refl
 same-more (n ∷ p) r = ap (λ b. b && same_path p (p ++ r)) (bytes_eq-itself n) ∙ same-more p r
 

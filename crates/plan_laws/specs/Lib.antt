@@ -6,3 +6,6 @@ pub mod Lanes
 pub mod Translated
 pub mod Sorted
 pub mod Listed
+pub mod Bridge
+pub mod Steps
+pub mod Target

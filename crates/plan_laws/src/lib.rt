@@ -2,23 +2,28 @@
 #![tactic(auto)]
 
 ghost use Rattle.std.specs.Prelude.{◌≡◌, ◌+◌, ◌≤◌, ◌++◌, ◌∷◌, [], map, reverse, List, ℕ, Bool, true, length, Option, Some, None, is_some};
-ghost use Rattle.std.specs.List.{filter, filter_map};
+ghost use Rattle.std.specs.List.{filter, filter_map, AllByRecursion};
 ghost use Rattle.std.specs.FinMap.Entries.{is_sorted};
 ghost use Rattle.hs_types.specs.Names.{Names};
+ghost use Rattle.hs_types.specs.declared.journal.Entry.{Entry};
 ghost use Rattle.hs_types.specs.declared.reply.LineKind.TheVariants.{Created};
 ghost use Rattle.hs_plain.specs.declared.plan.Listing.{Listing};
 ghost use Rattle.hs_plain.specs.declared.plan.Put.{Put};
 ghost use Rattle.hs_plain.specs.declared.state.Node.{Node};
 ghost use Rattle.hs_plain.specs.declared.state.Member.{Member};
 ghost use Rattle.hs_plain.specs.declared.state.State.{State};
-ghost use Rattle.hs_plain.specs.Tree.{Tree, path_cmp, node_at, place_of, is_dir};
+ghost use Rattle.hs_plain.specs.Tree.{Tree, path_cmp, node_at, place_of, is_dir, subtree};
 ghost use Rattle.hs_plain.specs.Report.{report, created, line_of};
-ghost use Rattle.hs_plain.specs.Plan.{outs, rest_below, translate};
+ghost use Rattle.hs_plain.specs.Plan.{outs, rest_below, translate, AreEqual};
+ghost use Rattle.hs_plain.specs.Files.{plain_files};
+ghost use Rattle.hs_plain.specs.Replay.{replay_from};
 ghost use Rattle.hs_plain.specs.Valid.{IsValid};
 ghost use Rattle.plan_laws.specs.Placings.{placings};
 ghost use Rattle.plan_laws.specs.Pair.{IsPair, IsIn, Alike, old_sight};
 ghost use Rattle.plan_laws.specs.Sight.{Sight, made_sight, hits, unless, outs_done, Each, NoneBelow, IsOutside, OutsGo, cuts, is_in, Both, Differ, Placing, targets, NumberOnce, IsLinked, Ready, Stands, HasDirs, puts_done, PutsGo};
 ghost use Rattle.plan_laws.specs.Copies.{Contents, content_of, CopyCall, IsMerging, SyncGoes, after_sync};
+ghost use Rattle.plan_laws.specs.Steps.{plan_steps, step_call, StepLeads, HasFirst, AreOk};
+ghost use Rattle.plan_laws.specs.Target.{IsBegun, IsTarget};
 ghost use Rattle.plan_laws.specs.Lanes.{calls_taken};
 ghost use Rattle.plan_laws.specs.Translated.{is_out_line, line_path, renames_id};
 ghost use Rattle.plan_laws.specs.Listed.{IsListed, IsNew, all_news, first_news, InOrder};
@@ -140,4 +145,16 @@ pub fn news_by_lines()
 pub fn sorted_by_path()
     ensures listing { (f : Names × Node (List ℕ) → Option (Put)) (tree : Tree (List ℕ)) (list : List (Names × Put)) → is_sorted path_cmp tree ≡ true → IsListing f tree list → put_entries [] list ≡ entries f tree }
     ensures values { (f : Names × Node (List ℕ) → Option (Put)) (tree : Tree (List ℕ)) → map (λ one. one.1) (entries f tree) ≡ filter_map f tree }
+{}
+
+/// In a journal with the first calls of a plan, in whatever merging of the copies, and with other entries that don't touch the
+/// root, each of these calls is answered by an Ok reply where it stands; with all of them the root then holds what the second
+/// tree holds.
+pub fn sync_in_journal()
+    ensures ok { (from to : Tree (List ℕ)) (tmp : List ℕ) (number : ℕ → List ℕ) → IsBegun from to tmp number → (pages : Names → List (List ℕ)) (copies : List CopyCall) → IsMerging from to pages copies →
+        (state : State (List ℕ)) (root_text : List ℕ) (root : Names) → IsTarget state root_text root from → (text : Names → List ℕ) → AllByRecursion (StepLeads text root) (plan_steps tmp number from to copies) →
+        (is_own : Entry → Bool) (entries : List Entry) → HasFirst is_own root_text entries (map (step_call text) (plan_steps tmp number from to copies)) → AreOk is_own state entries }
+    ensures equal { (from to : Tree (List ℕ)) (tmp : List ℕ) (number : ℕ → List ℕ) → IsBegun from to tmp number → (pages : Names → List (List ℕ)) (copies : List CopyCall) → IsMerging from to pages copies →
+        (state : State (List ℕ)) (root_text : List ℕ) (root : Names) → IsTarget state root_text root from → (text : Names → List ℕ) → AllByRecursion (StepLeads text root) (plan_steps tmp number from to copies) →
+        (is_own : Entry → Bool) (entries : List Entry) → (first : HasFirst is_own root_text entries (map (step_call text) (plan_steps tmp number from to copies))) → first.rest ≡ [] → AreEqual to (subtree (replay_from plain_files state entries).tree root) }
 {}
