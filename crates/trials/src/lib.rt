@@ -3,7 +3,11 @@
 #![tactic(auto)]
 
 #[cfg(test)]
+mod dir_rows;
+#[cfg(test)]
 mod ends;
+#[cfg(test)]
+mod file_rows;
 #[cfg(test)]
 mod namenodes;
 #[cfg(test)]
