@@ -1,11 +1,10 @@
 -- Calls of copies, path by path.
 use Rattle.std.proofs.Common.{◌≡◌, ℕ, true, false, cond, Option, Some, None, List, [], ◌∷◌, ◌++◌, refl, ap, sym, subst, ◌∙◌, append-nil, append_assoc}
-use Rattle.std.specs.List.{filter}
+use Rattle.std.specs.List.{filter, AllByRecursion}
 use Rattle.hs_types.specs.Names.{Names}
 use Rattle.hs_plain.specs.declared.state.Body.TheVariants.{File, Dir}
 use Rattle.hs_plain.specs.Tree.{parent_of}
 use Rattle.hs_plain.proofs.ValidShapes.{true_false}
-use Rattle.plan_laws.specs.Sight.{Each}
 use Rattle.plan_laws.specs.Copies.{Content, Contents, CopyCall, Create, Append, path_of_call, is_at, done_here, all_here, is_dir_seen, fits_here, FitHere, call_done, calls_done, CallsGo, joined, appends}
 use Rattle.plan_laws.proofs.Paths.{by}
 use Rattle.plan_laws.proofs.Lists.{same-so, same-here}
@@ -44,12 +43,12 @@ dir-kept call seen d fits dir = by (is_at d call)
     (λ t. absurd (true_false dir (ap (λ (x : Names). is_dir_seen (seen x)) (same-so (path_of_call call) d t) ∙ no-dir call (seen (path_of_call call)) fits)))
     (λ f. ap (λ b. is_dir_seen (cond b (done_here call (seen d)) (seen d))) f ∙ dir)
 
-each-kept : (call : CopyCall) (seen : Contents) (calls : List CopyCall) → fits_here call (seen (path_of_call call)) ≡ true → Each (λ c. is_dir_seen (seen (parent_of (path_of_call c))) ≡ true) calls →
-    Each (λ c. is_dir_seen (call_done seen call (parent_of (path_of_call c))) ≡ true) calls
+each-kept : (call : CopyCall) (seen : Contents) (calls : List CopyCall) → fits_here call (seen (path_of_call call)) ≡ true → AllByRecursion (λ c. is_dir_seen (seen (parent_of (path_of_call c))) ≡ true) calls →
+    AllByRecursion (λ c. is_dir_seen (call_done seen call (parent_of (path_of_call c))) ≡ true) calls
 each-kept call seen [] fits above = tt
 each-kept call seen (c ∷ calls) fits above = (dir-kept call seen (parent_of (path_of_call c)) fits above.0, each-kept call seen calls fits above.1)
 
-pub calls-go : (calls : List CopyCall) (seen : Contents) → ((q : Names) → FitHere (filter (is_at q) calls) (seen q)) → Each (λ call. is_dir_seen (seen (parent_of (path_of_call call))) ≡ true) calls → CallsGo seen calls
+pub calls-go : (calls : List CopyCall) (seen : Contents) → ((q : Names) → FitHere (filter (is_at q) calls) (seen q)) → AllByRecursion (λ call. is_dir_seen (seen (parent_of (path_of_call call))) ≡ true) calls → CallsGo seen calls
 calls-go [] seen fit above = tt
 calls-go (call ∷ calls) seen fit above =
     let fits : fits_here call (seen (path_of_call call)) ≡ true = fit-own call calls seen (fit (path_of_call call)) in

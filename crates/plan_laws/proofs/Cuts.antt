@@ -1,11 +1,12 @@
 -- What a list of paths cuts off below a path.
+use Rattle.std.specs.List.{AllByRecursion}
 use Rattle.std.proofs.Common.{◌≡◌, ℕ, Bool, true, false, ◌||◌, bytes_eq, cond, Some, None, is_some, List, [], ◌∷◌, ◌++◌, refl, ap, sym, ◌∙◌}
 use Rattle.std.specs.Prelude.{◌&&◌}
 use Rattle.hs_types.specs.Names.{Names}
 use Rattle.hs_plain.proofs.ValidShapes.{none_some}
 use Rattle.hs_plain.specs.Plan.{rest_below}
 use Rattle.plan_laws.proofs.Paths.{rest-step}
-use Rattle.plan_laws.specs.Sight.{hits, cuts, is_in, Each}
+use Rattle.plan_laws.specs.Sight.{hits, cuts, is_in}
 use Rattle.hs_plain.specs.Tree.{same_path}
 
 cuts-never : (r : Names) → cuts (λ x. false) r ≡ false
@@ -45,7 +46,7 @@ cut-one (m ∷ a) (n ∷ p) r h = ap is_some (rest-step m n a (p ++ r)) ∙
       | false ↦ λ g. sym (cuts-never r)
     ]) (sym (rest-step m n a p) ∙ h)
 
-pub hits-cuts : (paths : List Names) (p r : Names) → Each (λ path. rest_below path p ≡ None) paths → hits paths (p ++ r) ≡ cuts (λ x. is_in paths (p ++ x)) r
+pub hits-cuts : (paths : List Names) (p r : Names) → AllByRecursion (λ path. rest_below path p ≡ None) paths → hits paths (p ++ r) ≡ cuts (λ x. is_in paths (p ++ x)) r
 hits-cuts [] p r none = sym (cuts-never r)
 hits-cuts (a ∷ others) p r none =
     ap (λ b. b || hits others (p ++ r)) (cut-one a p r none.0)

@@ -1,3 +1,4 @@
+pub mod Elements
 pub mod Paths
 pub mod Outs
 pub mod Cuts

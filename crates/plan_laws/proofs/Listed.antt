@@ -1,7 +1,7 @@
 -- Lines and listings tell exactly what is new.
 use Rattle.std.proofs.Common.{◌≡◌, ℕ, Bool, true, false, bytes_eq, cond, Option, Some, None, is_some, List, [], ◌∷◌, ◌++◌, length, drop, refl, ap, sym, subst, ◌∙◌}
 use Rattle.std.specs.Prelude.{not, ◌==◌}
-use Rattle.std.specs.List.{filter_map, flat_map, cons_option, starts_with}
+use Rattle.std.specs.List.{filter_map, flat_map, cons_option, starts_with, AllByRecursion}
 use Rattle.std.specs.FinMap.Entries.{is_sorted, below_all}
 use Rattle.std.proofs.lemmas.Bool.Decides.{Decides-eqb}
 use Rattle.std.proofs.Math.Seq.{drop-append_seam}
@@ -13,34 +13,33 @@ use Rattle.hs_plain.specs.declared.state.Node.{Node}
 use Rattle.hs_plain.specs.Tree.{Tree, path_cmp, node_at, is_dir, parent_of, listing, child_item, named_item, name_below, only_name, item_of, same_inode, place_of}
 use Rattle.hs_plain.proofs.ValidShapes.{none_some, same_some, true_false, by_last, parent_of-last, under_test, under_so}
 use Rattle.hs_plain.proofs.ValidPlaces.{head_at, in_tail, by_place, one_place}
-use Rattle.plan_laws.specs.Sight.{Each}
 use Rattle.hs_types.specs.declared.reply.LineKind.{LineKind}
 use Rattle.hs_types.specs.declared.reply.LineKind.TheVariants.{Deleted, Renamed, Modified, Created}
 use Rattle.hs_types.specs.declared.reply.Line.{Line}
 use Rattle.hs_plain.specs.Report.{line_of, line_if, lines_by, lines_from, created_in, created_by, created, place_above, id_above, same_place, has_id, line_before, with_line, with_lines, report, last_of}
 use Rattle.hs_plain.specs.Plan.{translate}
-use Rattle.plan_laws.specs.Pair.{IsPair, IsIn}
+use Rattle.plan_laws.specs.Pair.{IsPair}
 use Rattle.plan_laws.specs.Translated.{renames_id}
 use Rattle.plan_laws.specs.Listed.{NewItem, new_by, first_news, new_in, path_in, news_at, grown, all_news, InOrder, IsNew, IsListed}
 use Rattle.plan_laws.proofs.Paths.{by, by_one}
 use Rattle.plan_laws.proofs.Lists.{each-append}
 use Rattle.plan_laws.proofs.Places.{last_of-last, place_of-here, dir-above, id_above-at}
 use Rattle.plan_laws.proofs.Child.{one_child}
-use Rattle.plan_laws.proofs.Pairs.{in-left, in-right}
+use Rattle.plan_laws.proofs.Elements.{IsIn, in-left, in-right}
 use Rattle.plan_laws.proofs.Translated.{each-with_lines, each-flat}
 use Rattle.plan_laws.proofs.NewItems.{created-at, renamed-id, not-renamed}
 use Rattle.hs_plain.proofs.ValidTrees as trees
 
 -- ---- members of lists
 
-pub each-from : {A : Type 0} (P : A → Type 0) (xs : List A) → ((x : A) → IsIn xs x → P x) → Each P xs
+pub each-from : {A : Type 0} (P : A → Type 0) (xs : List A) → ((x : A) → IsIn xs x → P x) → AllByRecursion P xs
 each-from P [] all = tt
 each-from P (x ∷ xs) all = (all x (record { before = []; after = xs; is = refl }), each-from P xs (λ y at. all y (in-right (x ∷ []) xs y at)))
 
-pub each-at : {A : Type 0} (P : A → Type 0) (xs : List A) (x : A) → IsIn xs x → Each P xs → P x
-each-at P xs x at h = middle at.before (subst (Each P) at.is h)
+pub each-at : {A : Type 0} (P : A → Type 0) (xs : List A) (x : A) → IsIn xs x → AllByRecursion P xs → P x
+each-at P xs x at h = middle at.before (subst (AllByRecursion P) at.is h)
   where
-    middle : (before : List _) → Each P (before ++ x ∷ at.after) → P x
+    middle : (before : List _) → AllByRecursion P (before ++ x ∷ at.after) → P x
     middle [] h = h.0
     middle (y ∷ ys) h = middle ys h.1
 
@@ -112,11 +111,11 @@ module _ {B : Type 0} where
   listed-child : (tree : Tree B) (t : Names) (n : List ℕ) (m : Node B) → node_at tree (t ++ n ∷ []) ≡ Some m → IsIn (listing tree t) (item_of m n)
   listed-child tree t n m at = in-filter_map (child_item t) tree (t ++ n ∷ [], m) (item_of m n) (in-places tree (t ++ n ∷ []) m at) (ap (named_item m) (below-last t n))
 
-  each-listed : (P : Item → Type 0) (tree : Tree B) (t : Names) → is_sorted path_cmp tree ≡ true → ((n : List ℕ) (m : Node B) → node_at tree (t ++ n ∷ []) ≡ Some m → P (item_of m n)) → Each P (listing tree t)
+  each-listed : (P : Item → Type 0) (tree : Tree B) (t : Names) → is_sorted path_cmp tree ≡ true → ((n : List ℕ) (m : Node B) → node_at tree (t ++ n ∷ []) ≡ Some m → P (item_of m n)) → AllByRecursion P (listing tree t)
   each-listed P [] t h all = tt
   each-listed P (e ∷ es) t h all = each-cons (name_below t e.0) refl (each-listed P es t (trees.second (below_all path_cmp e.0 es) _ h) (λ n m at. all n m (in_tail e es (t ++ n ∷ []) m (trees.first (below_all path_cmp e.0 es) _ h) at)))
     where
-      each-cons : (o : Option (List ℕ)) → name_below t e.0 ≡ o → Each P (listing es t) → Each P (cons_option (named_item e.1 o) (listing es t))
+      each-cons : (o : Option (List ℕ)) → name_below t e.0 ≡ o → AllByRecursion P (listing es t) → AllByRecursion P (cons_option (named_item e.1 o) (listing es t))
       each-cons None is rest = rest
       each-cons (Some n) is rest = (all n e.1 (ap (node_at (e ∷ es)) (sym (below-so t e.0 n is)) ∙ head_at e es), rest)
 
@@ -139,11 +138,11 @@ module _ {B : Type 0} (from to : Tree B) (is : IsPair from to) where
   mod-not : Modified ≡ Created → ⊥
   mod-not e = cc
 
-  each-if : (P : Line → Type 0) (b : Bool) (one : Line) (more : List Line) → P one → Each P more → Each P (line_if b one more)
+  each-if : (P : Line → Type 0) (b : Bool) (one : Line) (more : List Line) → P one → AllByRecursion P more → AllByRecursion P (line_if b one more)
   each-if P true one more h k = (h, k)
   each-if P false one more h k = k
 
-  base-tells : (q : Names) (m : Node B) (o : Option (Names × Node B)) → Each Tells (lines_by from to (q, m) o)
+  base-tells : (q : Names) (m : Node B) (o : Option (Names × Node B)) → AllByRecursion Tells (lines_by from to (q, m) o)
   base-tells q m None = each-if Tells (has_id to (id_above from q)) (line_of Deleted q None m) [] (λ k. absurd (del-not k)) tt
   base-tells q m (Some other) = each-if Tells (not (same_place from to q other.0)) (line_of Renamed q (Some other.0) m) (line_if (not (m.stamp == other.1.stamp)) (line_of Modified q None m) []) (λ k. absurd (ren-not k))
       (each-if Tells (not (m.stamp == other.1.stamp)) (line_of Modified q None m) [] (λ k. absurd (mod-not k)) tt)
@@ -168,23 +167,23 @@ module _ {B : Type 0} (from to : Tree B) (is : IsPair from to) where
               }))
             (λ gone. absurd (none_some (sym (ap (created_by from to (t ++ n ∷ [], m)) new ∙ ap (λ o. created_in (t ++ n ∷ [], m) (place_above from o)) (id_above-at to t n d.0 d.1) ∙ ap (created_in (t ++ n ∷ [], m)) gone) ∙ h))))
 
-  each-created : (P : Line → Type 0) (tree : Tree B) → is_sorted path_cmp tree ≡ true → ((q : Names) (m : Node B) (one : Line) → node_at tree q ≡ Some m → created from to (q, m) ≡ Some one → P one) → Each P (filter_map (created from to) tree)
+  each-created : (P : Line → Type 0) (tree : Tree B) → is_sorted path_cmp tree ≡ true → ((q : Names) (m : Node B) (one : Line) → node_at tree q ≡ Some m → created from to (q, m) ≡ Some one → P one) → AllByRecursion P (filter_map (created from to) tree)
   each-created P [] h all = tt
   each-created P (e ∷ es) h all = each-cons (created from to e) refl (each-created P es (trees.second (below_all path_cmp e.0 es) _ h) (λ q m one at. all q m one (in_tail e es q m (trees.first (below_all path_cmp e.0 es) _ h) at)))
     where
-      each-cons : (o : Option Line) → created from to e ≡ o → Each P (filter_map (created from to) es) → Each P (cons_option o (filter_map (created from to) es))
+      each-cons : (o : Option Line) → created from to e ≡ o → AllByRecursion P (filter_map (created from to) es) → AllByRecursion P (cons_option o (filter_map (created from to) es))
       each-cons None t rest = rest
       each-cons (Some one) t rest = (all e.0 e.1 one (head_at e es) t, rest)
 
-  lines-tell : Each Tells lines
+  lines-tell : AllByRecursion Tells lines
   lines-tell = each-with_lines Tells (filter_map (created from to) to) (flat_map (lines_from from to) from) (each-created Tells to is.to_tree.sorted created-tells)
       (each-flat Tells (lines_from from to) from is.from_tree.sorted (λ q m at. base-tells q m (place_of to m.id)))
 
-  first-sound : (ls : List Line) → Each Tells ls → Each Sound (filter_map (λ one. new_by lines one.kind one) ls)
+  first-sound : (ls : List Line) → AllByRecursion Tells ls → AllByRecursion Sound (filter_map (λ one. new_by lines one.kind one) ls)
   first-sound [] tells = tt
   first-sound (one ∷ ls) tells = by-kind one.kind refl (first-sound ls tells.1)
     where
-      by-kind : (k : LineKind) → one.kind ≡ k → Each Sound (filter_map (λ one. new_by lines one.kind one) ls) → Each Sound (cons_option (new_by lines k one) (filter_map (λ one. new_by lines one.kind one) ls))
+      by-kind : (k : LineKind) → one.kind ≡ k → AllByRecursion Sound (filter_map (λ one. new_by lines one.kind one) ls) → AllByRecursion Sound (cons_option (new_by lines k one) (filter_map (λ one. new_by lines one.kind one) ls))
       by-kind Created h rest = (tells.0 h, rest)
       by-kind Deleted h rest = rest
       by-kind Renamed h rest = rest
@@ -192,7 +191,7 @@ module _ {B : Type 0} (from to : Tree B) (is : IsPair from to) where
 
   -- ---- listings tell what is new in new directories
 
-  path-so : (news : List NewItem) (id : InodeId) (path : Names) → Each Sound news → path_in news id ≡ Some path → (m : Node B) × (node_at to path ≡ Some m) × (m.id.0 ≡ id.0)
+  path-so : (news : List NewItem) (id : InodeId) (path : Names) → AllByRecursion Sound news → path_in news id ≡ Some path → (m : Node B) × (node_at to path ≡ Some m) × (m.id.0 ≡ id.0)
   path-so [] id path sound h = absurd (none_some h)
   path-so (one ∷ news) id path sound h = by (same_inode one.id id)
       (λ t. let same : one.path ≡ path = same_some (ap (λ b. cond b (Some one.path) (path_in news id)) (sym t) ∙ h) in
@@ -200,19 +199,19 @@ module _ {B : Type 0} (from to : Tree B) (is : IsPair from to) where
       (λ f. path-so news id path sound.1 (ap (λ b. cond b (Some one.path) (path_in news id)) (sym f) ∙ h))
 
   -- the path that was found for a listed directory is its path
-  path-is : (news : List NewItem) (one : Listing) (listed : IsListed from to one) (path : Names) → Each Sound news → path_in news one.dir ≡ Some path → path ≡ listed.path
+  path-is : (news : List NewItem) (one : Listing) (listed : IsListed from to one) (path : Names) → AllByRecursion Sound news → path_in news one.dir ≡ Some path → path ≡ listed.path
   path-is news one listed path sound h = let at : (m : Node B) × (node_at to path ≡ Some m) × (m.id.0 ≡ one.dir.0) = path-so news one.dir path sound h in
       one_place to is.to_tree.each_once path listed.path at.0 listed.dir at.1 listed.at (at.2 ∙ sym listed.same_id)
 
-  items-sound : (one : Listing) (listed : IsListed from to one) → Each Sound (filter_map (new_in lines listed.path) one.items)
-  items-sound one listed = subst (λ items. Each Sound (filter_map (new_in lines listed.path) items)) (sym listed.items)
+  items-sound : (one : Listing) (listed : IsListed from to one) → AllByRecursion Sound (filter_map (new_in lines listed.path) one.items)
+  items-sound one listed = subst (λ items. AllByRecursion Sound (filter_map (new_in lines listed.path) items)) (sym listed.items)
       (each-map (listing to listed.path) (each-listed (λ item. (new : NewItem) → new_in lines listed.path item ≡ Some new → Sound new) to listed.path is.to_tree.sorted one-sound))
     where
-      each-map : (items : List Item) → Each (λ item. (new : NewItem) → new_in lines listed.path item ≡ Some new → Sound new) items → Each Sound (filter_map (new_in lines listed.path) items)
+      each-map : (items : List Item) → AllByRecursion (λ item. (new : NewItem) → new_in lines listed.path item ≡ Some new → Sound new) items → AllByRecursion Sound (filter_map (new_in lines listed.path) items)
       each-map [] all = tt
       each-map (item ∷ items) all = each-cons (new_in lines listed.path item) refl (each-map items all.1)
         where
-          each-cons : (o : Option NewItem) → new_in lines listed.path item ≡ o → Each Sound (filter_map (new_in lines listed.path) items) → Each Sound (cons_option o (filter_map (new_in lines listed.path) items))
+          each-cons : (o : Option NewItem) → new_in lines listed.path item ≡ o → AllByRecursion Sound (filter_map (new_in lines listed.path) items) → AllByRecursion Sound (cons_option o (filter_map (new_in lines listed.path) items))
           each-cons None t rest = rest
           each-cons (Some new) t rest = (all.0 new t, rest)
       one-sound : (n : List ℕ) (m : Node B) → node_at to (listed.path ++ n ∷ []) ≡ Some m → (new : NewItem) → new_in lines listed.path (item_of m n) ≡ Some new → Sound new
@@ -223,16 +222,16 @@ module _ {B : Type 0} (from to : Tree B) (is : IsPair from to) where
             new = by_one (place_of from m.id) (λ old e. absurd (true_false (renamed-id from to is listed.path n listed.dir m old listed.at listed.new at e) f)) (λ none. none);
           }))
 
-  news-sound : (news : List NewItem) (one : Listing) → IsListed from to one → Each Sound news → (o : Option Names) → path_in news one.dir ≡ o → Each Sound (news_at lines one.items o)
+  news-sound : (news : List NewItem) (one : Listing) → IsListed from to one → AllByRecursion Sound news → (o : Option Names) → path_in news one.dir ≡ o → AllByRecursion Sound (news_at lines one.items o)
   news-sound news one listed sound None h = tt
-  news-sound news one listed sound (Some path) h = subst (λ (p : Names). Each Sound (filter_map (new_in lines p) one.items)) (sym (path-is news one listed path sound h)) (items-sound one listed)
+  news-sound news one listed sound (Some path) h = subst (λ (p : Names). AllByRecursion Sound (filter_map (new_in lines p) one.items)) (sym (path-is news one listed path sound h)) (items-sound one listed)
 
-  grown-sound : (listings : List Listing) (news : List NewItem) → Each (IsListed from to) listings → Each Sound news → Each Sound (grown lines news listings)
+  grown-sound : (listings : List Listing) (news : List NewItem) → AllByRecursion (IsListed from to) listings → AllByRecursion Sound news → AllByRecursion Sound (grown lines news listings)
   grown-sound [] news listed sound = sound
   grown-sound (one ∷ listings) news listed sound = grown-sound listings (news ++ news_at lines one.items (path_in news one.dir)) listed.1 (each-append Sound news (news_at lines one.items (path_in news one.dir)) sound (news-sound news one listed.0 sound (path_in news one.dir) refl))
 
   -- all that is found is new
-  pub news-are-new : (listings : List Listing) → Each (IsListed from to) listings → Each Sound (all_news lines listings)
+  pub news-are-new : (listings : List Listing) → AllByRecursion (IsListed from to) listings → AllByRecursion Sound (all_news lines listings)
   news-are-new listings listed = grown-sound listings (first_news lines) listed (first-sound lines lines-tell)
 
   -- ---- all that is new is found
@@ -254,11 +253,11 @@ module _ {B : Type 0} (from to : Tree B) (is : IsPair from to) where
       (ap (λ (p : Names). Some (item_at p m)) (one_child (ap (translate lines) (parent_of-last old.0 n)) (last_of-last old.0 n) ∙ w.1))
 
   -- new in a listed directory
-  by-listing : (listings : List Listing) (news : List NewItem) (one : Listing) (t : Names) (n : List ℕ) (m d : Node B) → IsIn listings one → Each (IsListed from to) listings → Each Sound news → InOrder lines news listings →
+  by-listing : (listings : List Listing) (news : List NewItem) (one : Listing) (t : Names) (n : List ℕ) (m d : Node B) → IsIn listings one → AllByRecursion (IsListed from to) listings → AllByRecursion Sound news → InOrder lines news listings →
       node_at to (t ++ n ∷ []) ≡ Some m → node_at to t ≡ Some d → d.id.0 ≡ one.dir.0 → renames_id lines m.id ≡ false → IsIn (grown lines news listings) (item_at (t ++ n ∷ []) m)
   by-listing listings news one t n m d in_list listed sound ordered at there same no_line = spread in_list.before listings news in_list.is listed sound ordered
     where
-      added : (news : List NewItem) → IsListed from to one → Each Sound news → (o : Option Names) → path_in news one.dir ≡ o → is_some o ≡ true → IsIn (news_at lines one.items o) (item_at (t ++ n ∷ []) m)
+      added : (news : List NewItem) → IsListed from to one → AllByRecursion Sound news → (o : Option Names) → path_in news one.dir ≡ o → is_some o ≡ true → IsIn (news_at lines one.items o) (item_at (t ++ n ∷ []) m)
       added news its sound None h some = absurd (true_false some refl)
       added news its sound (Some path) h some =
           let path_is : path ≡ t = path-is news one its path sound h ∙ one_place to is.to_tree.each_once its.path t its.dir d its.at there (its.same_id ∙ sym same) in
@@ -266,15 +265,15 @@ module _ {B : Type 0} (from to : Tree B) (is : IsPair from to) where
           in-filter_map (new_in lines path) one.items (item_of m n) (item_at (t ++ n ∷ []) m)
           (subst (λ items. IsIn items (item_of m n)) (ap (listing to) t_is ∙ sym its.items) (listed-child to t n m at))
           (ap (λ b. cond b None (Some (item_at (path ++ n ∷ []) m))) no_line ∙ ap (λ (p : Names). Some (item_at (p ++ n ∷ []) m)) path_is)
-      spread : (before listings : List Listing) (news : List NewItem) → listings ≡ before ++ one ∷ in_list.after → Each (IsListed from to) listings → Each Sound news → InOrder lines news listings → IsIn (grown lines news listings) (item_at (t ++ n ∷ []) m)
+      spread : (before listings : List Listing) (news : List NewItem) → listings ≡ before ++ one ∷ in_list.after → AllByRecursion (IsListed from to) listings → AllByRecursion Sound news → InOrder lines news listings → IsIn (grown lines news listings) (item_at (t ++ n ∷ []) m)
       spread [] listings news e listed sound ordered =
-          let listed2 : Each (IsListed from to) (one ∷ in_list.after) = subst (Each (IsListed from to)) e listed in
+          let listed2 : AllByRecursion (IsListed from to) (one ∷ in_list.after) = subst (AllByRecursion (IsListed from to)) e listed in
           let ordered2 : InOrder lines news (one ∷ in_list.after) = subst (InOrder lines news) e ordered in
           subst (λ ls. IsIn (grown lines news ls) (item_at (t ++ n ∷ []) m)) (sym e)
           (grown-keeps in_list.after (news ++ news_at lines one.items (path_in news one.dir)) (item_at (t ++ n ∷ []) m)
             (in-right news (news_at lines one.items (path_in news one.dir)) (item_at (t ++ n ∷ []) m) (added news listed2.0 sound (path_in news one.dir) refl ordered2.0)))
       spread (y ∷ ys) listings news e listed sound ordered =
-          let listed2 : Each (IsListed from to) (y ∷ (ys ++ one ∷ in_list.after)) = subst (Each (IsListed from to)) e listed in
+          let listed2 : AllByRecursion (IsListed from to) (y ∷ (ys ++ one ∷ in_list.after)) = subst (AllByRecursion (IsListed from to)) e listed in
           let ordered2 : InOrder lines news (y ∷ (ys ++ one ∷ in_list.after)) = subst (InOrder lines news) e ordered in
           subst (λ ls. IsIn (grown lines news ls) (item_at (t ++ n ∷ []) m)) (sym e)
           (spread ys (ys ++ one ∷ in_list.after) (news ++ news_at lines y.items (path_in news y.dir)) refl listed2.1
@@ -290,7 +289,7 @@ module _ {B : Type 0} (from to : Tree B) (is : IsPair from to) where
   new-ren : Created ≡ Renamed → ⊥
   new-ren e = cc
 
-  base-ids : (q : Names) (m : Node B) → node_at from q ≡ Some m → (o : Option (Names × Node B)) → Each HasNode (lines_by from to (q, m) o)
+  base-ids : (q : Names) (m : Node B) → node_at from q ≡ Some m → (o : Option (Names × Node B)) → AllByRecursion HasNode (lines_by from to (q, m) o)
   base-ids q m at None = each-if HasNode (has_id to (id_above from q)) (line_of Deleted q None m) [] (λ t k _. absurd (del-ren k)) tt
   base-ids q m at (Some other) = each-if HasNode (not (same_place from to q other.0)) (line_of Renamed q (Some other.0) m) (line_if (not (m.stamp == other.1.stamp)) (line_of Modified q None m) []) (λ t k _. (q, m, at, refl))
       (each-if HasNode (not (m.stamp == other.1.stamp)) (line_of Modified q None m) [] (λ t k _. absurd (mod-ren k)) tt)
@@ -305,12 +304,12 @@ module _ {B : Type 0} (from to : Tree B) (is : IsPair from to) where
       by-old None h = by-above (place_above from (id_above to q)) h
       by-old (Some old) h = absurd (none_some h)
 
-  renaming-ids : Each HasNode lines
+  renaming-ids : AllByRecursion HasNode lines
   renaming-ids = each-with_lines HasNode (filter_map (created from to) to) (flat_map (lines_from from to) from) (each-created HasNode to is.to_tree.sorted created-ids)
       (each-flat HasNode (lines_from from to) from is.from_tree.sorted (λ q m at. base-ids q m at (place_of to m.id)))
 
   -- all that is new is found, where each new directory is listed
-  pub new-is-found : (listings : List Listing) → Each (IsListed from to) listings → InOrder lines (first_news lines) listings →
+  pub new-is-found : (listings : List Listing) → AllByRecursion (IsListed from to) listings → InOrder lines (first_news lines) listings →
       ((t : Names) (d : Node B) → node_at to t ≡ Some d → place_of from d.id ≡ None → is_dir d ≡ true → (one : Listing) × IsIn listings one × (d.id.0 ≡ one.dir.0)) →
       (q : Names) (m : Node B) → node_at to q ≡ Some m → place_of from m.id ≡ None → IsIn (all_news lines listings) (item_at q m)
   new-is-found listings listed ordered all q m at new = by_last (λ q. node_at to q ≡ Some m → IsIn (all_news lines listings) (item_at q m)) q

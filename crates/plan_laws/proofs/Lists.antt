@@ -1,4 +1,5 @@
 -- Paths in the lists of a plan.
+use Rattle.std.specs.List.{AllByRecursion}
 use Rattle.std.proofs.Common.{◌≡◌, ℕ, ◌+◌, Bool, true, false, ◌||◌, bytes_eq, cond, Option, None, List, [], ◌∷◌, ◌++◌, length, reverse, refl, ap, sym, subst, ◌∙◌, arith}
 use Rattle.std.proofs.lemmas.List.{reverse-append}
 use Rattle.std.specs.Prelude.{◌&&◌}
@@ -11,21 +12,21 @@ use Rattle.hs_types.specs.Names.{Names}
 use Rattle.hs_plain.specs.Tree.{path_cmp, same_path}
 use Rattle.hs_plain.proofs.ValidShapes.{none_some, true_false}
 use Rattle.hs_plain.specs.Plan.{rest_below, index_of}
-use Rattle.plan_laws.specs.Sight.{hits, cuts, is_in, Each, Pairwise}
+use Rattle.plan_laws.specs.Sight.{hits, cuts, is_in, Pairwise}
 use Rattle.plan_laws.proofs.Paths.{by, bytes_eq-itself, rest-step, rest-here, differs}
 use Rattle.plan_laws.proofs.Cuts.{hits-cuts}
 
 -- ---- each
 
-pub each-append : {A : Type 0} (P : A → Type 0) (xs ys : List A) → Each P xs → Each P ys → Each P (xs ++ ys)
+pub each-append : {A : Type 0} (P : A → Type 0) (xs ys : List A) → AllByRecursion P xs → AllByRecursion P ys → AllByRecursion P (xs ++ ys)
 each-append P [] ys h k = k
 each-append P (x ∷ xs) ys h k = (h.0, each-append P xs ys h.1 k)
 
-pub each-reverse : {A : Type 0} (P : A → Type 0) (xs : List A) → Each P xs → Each P (reverse xs)
+pub each-reverse : {A : Type 0} (P : A → Type 0) (xs : List A) → AllByRecursion P xs → AllByRecursion P (reverse xs)
 each-reverse P [] h = tt
-each-reverse P (x ∷ xs) h = subst (Each P) (sym (reverse-append (x ∷ []) xs)) (each-append P (reverse xs) (x ∷ []) (each-reverse P xs h.1) (h.0, tt))
+each-reverse P (x ∷ xs) h = subst (AllByRecursion P) (sym (reverse-append (x ∷ []) xs)) (each-append P (reverse xs) (x ∷ []) (each-reverse P xs h.1) (h.0, tt))
 
-pub pairwise-snoc : {A : Type 0} (R : A → A → Type 0) (xs : List A) (x : A) → Pairwise R xs → Each (λ y. R y x) xs → Pairwise R (xs ++ x ∷ [])
+pub pairwise-snoc : {A : Type 0} (R : A → A → Type 0) (xs : List A) (x : A) → Pairwise R xs → AllByRecursion (λ y. R y x) xs → Pairwise R (xs ++ x ∷ [])
 pairwise-snoc R [] x h k = (tt, tt)
 pairwise-snoc R (y ∷ ys) x h k = (each-append (R y) ys (x ∷ []) h.0 (k.0, tt), pairwise-snoc R ys x h.1 k.1)
 
@@ -33,15 +34,15 @@ pub pairwise-reverse : {A : Type 0} (R : A → A → Type 0) (xs : List A) → P
 pairwise-reverse R [] h = tt
 pairwise-reverse R (x ∷ xs) h = subst (Pairwise (λ x y. R y x)) (sym (reverse-append (x ∷ []) xs)) (pairwise-snoc (λ x y. R y x) (reverse xs) x (pairwise-reverse R xs h.1) (each-reverse (R x) xs h.0))
 
-pub pairwise-before : {A : Type 0} (R : A → A → Type 0) (xs : List A) (x : A) (ys : List A) → Pairwise R (xs ++ x ∷ ys) → Each (λ y. R y x) xs
+pub pairwise-before : {A : Type 0} (R : A → A → Type 0) (xs : List A) (x : A) (ys : List A) → Pairwise R (xs ++ x ∷ ys) → AllByRecursion (λ y. R y x) xs
 pairwise-before R [] x ys h = tt
 pairwise-before R (z ∷ zs) x ys h = (middle (R z) zs x ys h.0, pairwise-before R zs x ys h.1)
   where
-    middle : {A : Type 0} (P : A → Type 0) (zs : List A) (x : A) (ys : List A) → Each P (zs ++ x ∷ ys) → P x
+    middle : {A : Type 0} (P : A → Type 0) (zs : List A) (x : A) (ys : List A) → AllByRecursion P (zs ++ x ∷ ys) → P x
     middle P [] x ys h = h.0
     middle P (z ∷ zs) x ys h = middle P zs x ys h.1
 
-pub pairwise-after : {A : Type 0} (R : A → A → Type 0) (xs : List A) (x : A) (ys : List A) → Pairwise R (xs ++ x ∷ ys) → Each (R x) ys
+pub pairwise-after : {A : Type 0} (R : A → A → Type 0) (xs : List A) (x : A) (ys : List A) → Pairwise R (xs ++ x ∷ ys) → AllByRecursion (R x) ys
 pairwise-after R [] x ys h = h.0
 pairwise-after R (z ∷ zs) x ys h = pairwise-after R zs x ys h.1
 
@@ -79,7 +80,7 @@ is_in-reverse (x ∷ xs) p =
     ∙ ap (λ b. b || (same_path x p || false)) (is_in-reverse xs p) ∙ or-comm (is_in xs p) (same_path x p)
 
 -- what isn't at or below a path isn't in a list below it
-pub none-in : (paths : List Names) (p y : Names) → Each (λ path. rest_below p path ≡ None) paths → is_in paths (p ++ y) ≡ false
+pub none-in : (paths : List Names) (p y : Names) → AllByRecursion (λ path. rest_below p path ≡ None) paths → is_in paths (p ++ y) ≡ false
 none-in [] p y none = refl
 none-in (a ∷ others) p y none = by (same_path a (p ++ y))
     (λ t. absurd (none_some (sym none.0 ∙ ap (rest_below p) (sym (same-so a (p ++ y) t)) ∙ rest-here p y)))
@@ -94,13 +95,13 @@ or-right true b h = refl
 or-right false b h = h
 
 -- what some paths take below a path is what all do, where the others are neither at the path nor below it
-pub hits-left : (xs : List Names) (p : Names) (ys : List Names) (r : Names) → Each (λ x. rest_below x p ≡ None) xs → Each (λ y. rest_below p y ≡ None) ys → hits xs (p ++ r) ≡ cuts (λ x. is_in (xs ++ p ∷ ys) (p ++ x)) r
+pub hits-left : (xs : List Names) (p : Names) (ys : List Names) (r : Names) → AllByRecursion (λ x. rest_below x p ≡ None) xs → AllByRecursion (λ y. rest_below p y ≡ None) ys → hits xs (p ++ r) ≡ cuts (λ x. is_in (xs ++ p ∷ ys) (p ++ x)) r
 hits-left xs p ys r left right = hits-cuts xs p r left ∙ cuts-same (λ x. is_in xs (p ++ x)) (λ x. is_in (xs ++ p ∷ ys) (p ++ x)) r (λ n x. sym (
     is_in-append xs (p ∷ ys) (p ++ n ∷ x)
     ∙ ap (λ b. is_in xs (p ++ n ∷ x) || (b || is_in ys (p ++ n ∷ x))) (same-more p (n ∷ x))
     ∙ or-right (is_in xs (p ++ n ∷ x)) (is_in ys (p ++ n ∷ x)) (none-in ys p (n ∷ x) right)))
 
-pub hits-right : (xs : List Names) (p : Names) (ys : List Names) (r : Names) → Each (λ x. rest_below p x ≡ None) xs → Each (λ y. rest_below y p ≡ None) ys → hits ys (p ++ r) ≡ cuts (λ x. is_in (xs ++ p ∷ ys) (p ++ x)) r
+pub hits-right : (xs : List Names) (p : Names) (ys : List Names) (r : Names) → AllByRecursion (λ x. rest_below p x ≡ None) xs → AllByRecursion (λ y. rest_below y p ≡ None) ys → hits ys (p ++ r) ≡ cuts (λ x. is_in (xs ++ p ∷ ys) (p ++ x)) r
 hits-right xs p ys r left right = hits-cuts ys p r right ∙ cuts-same (λ x. is_in ys (p ++ x)) (λ x. is_in (xs ++ p ∷ ys) (p ++ x)) r (λ n x. sym (
     is_in-append xs (p ∷ ys) (p ++ n ∷ x)
     ∙ ap (λ b. is_in xs (p ++ n ∷ x) || (b || is_in ys (p ++ n ∷ x))) (same-more p (n ∷ x))

@@ -1,7 +1,7 @@
 -- The outs and the puts of a plan, in two valid trees of one root.
 use Rattle.std.proofs.Common.{◌≡◌, ◌⊎◌, inl, inr, ℕ, ◌+◌, Bool, true, false, ◌||◌, cond, Option, Some, None, is_some, List, [], ◌∷◌, ◌++◌, map, length, refl, ap, sym, subst, ◌∙◌, append-nil, append_assoc, arith}
 use Rattle.std.specs.Prelude.{not}
-use Rattle.std.specs.List.{filter, filter_map, cons_option}
+use Rattle.std.specs.List.{filter, filter_map, cons_option, AllByRecursion}
 use Rattle.std.specs.Ordering.{is_lt}
 use Rattle.std.specs.FinMap.Entries.{is_sorted, below_all}
 use Rattle.hs_types.specs.Names.{Names}
@@ -11,7 +11,7 @@ use Rattle.hs_plain.proofs.ValidTrees.{first, second}
 use Rattle.hs_plain.proofs.ValidShapes.{none_some, same_some, true_false, by_last, not_last}
 use Rattle.hs_plain.proofs.ValidPlaces.{head_at, in_tail, by_place, missing_below, one_place}
 use Rattle.hs_plain.specs.Plan.{rest_below, goes_by, goes, outs, index_of}
-use Rattle.plan_laws.specs.Sight.{Sight, Placing, Back, New, target, targets, hits, unless, cuts, is_in, inside_or, at_top, made_sight, outs_done, puts_done, Each, NoneBelow, Rises, IsOutside, OutsGo, PutsGo, Ready, IsOther, NumberOnce, IsLinked, Stands}
+use Rattle.plan_laws.specs.Sight.{Sight, Placing, Back, New, target, targets, hits, unless, cuts, is_in, inside_or, at_top, made_sight, outs_done, puts_done, NoneBelow, Rises, IsOutside, OutsGo, PutsGo, Ready, IsOther, NumberOnce, IsLinked, Stands}
 use Rattle.hs_plain.specs.Report.{same_place, last_of}
 use Rattle.plan_laws.specs.Placings.{placing_by, placing_at, placings}
 use Rattle.plan_laws.specs.Pair.{IsTree, IsPair, if_old, old_sight, Alike}
@@ -34,11 +34,11 @@ module _ {B : Type 0} where
       (λ bt. below-so x es q m (second (is_lt (path_cmp x e.0)) _ h) bt)
 
   each-filter : (P : Names → Type 0) (test : Names × Node B → Bool) (tree : Tree B) → is_sorted path_cmp tree ≡ true →
-      ((q : Names) (m : Node B) → node_at tree q ≡ Some m → test (q, m) ≡ true → P q) → Each P (map path_of_place (filter test tree))
+      ((q : Names) (m : Node B) → node_at tree q ≡ Some m → test (q, m) ≡ true → P q) → AllByRecursion P (map path_of_place (filter test tree))
   each-filter P test [] h all = tt
   each-filter P test (e ∷ es) h all =
-      let rest : Each P (map path_of_place (filter test es)) = each-filter P test es (second (below_all path_cmp e.0 es) _ h) (λ q m at. all q m (in_tail e es q m (first (below_all path_cmp e.0 es) _ h) at)) in
-      (elim (test e) as (λ b. test e ≡ b → Each P (map path_of_place (cond b (e ∷ filter test es) (filter test es)))) [
+      let rest : AllByRecursion P (map path_of_place (filter test es)) = each-filter P test es (second (below_all path_cmp e.0 es) _ h) (λ q m at. all q m (in_tail e es q m (first (below_all path_cmp e.0 es) _ h) at)) in
+      (elim (test e) as (λ b. test e ≡ b → AllByRecursion P (map path_of_place (cond b (e ∷ filter test es) (filter test es)))) [
         | true ↦ λ t. (all e.0 e.1 (head_at e es) t, rest)
         | false ↦ λ t. rest
       ]) refl
@@ -47,7 +47,7 @@ module _ {B : Type 0} where
   rises-filter test [] h = tt
   rises-filter test (e ∷ es) h =
       let rest : Rises (map path_of_place (filter test es)) = rises-filter test es (second (below_all path_cmp e.0 es) _ h) in
-      let above : Each (λ later. rest_below later e.0 ≡ None) (map path_of_place (filter test es)) = each-filter (λ later. rest_below later e.0 ≡ None) test es (second (below_all path_cmp e.0 es) _ h)
+      let above : AllByRecursion (λ later. rest_below later e.0 ≡ None) (map path_of_place (filter test es)) = each-filter (λ later. rest_below later e.0 ≡ None) test es (second (below_all path_cmp e.0 es) _ h)
           (λ q m at _. before-none e.0 q (below-so e.0 es q m (first (below_all path_cmp e.0 es) _ h) at)) in
       elim (test e) as (λ b. Rises (map path_of_place (cond b (e ∷ filter test es) (filter test es)))) [
         | true ↦ (above, rest)
@@ -56,16 +56,16 @@ module _ {B : Type 0} where
 
   module _ (f : Names × Node B → Option (Placing (Node B))) where
     pub each-put : (P : Placing (Node B) → Type 0) (tree : Tree B) → is_sorted path_cmp tree ≡ true →
-        ((q : Names) (m : Node B) (put : Placing (Node B)) → node_at tree q ≡ Some m → f (q, m) ≡ Some put → P put) → Each P (filter_map f tree)
+        ((q : Names) (m : Node B) (put : Placing (Node B)) → node_at tree q ≡ Some m → f (q, m) ≡ Some put → P put) → AllByRecursion P (filter_map f tree)
     each-put P [] h all = tt
     each-put P (e ∷ es) h all =
-        let rest : Each P (filter_map f es) = each-put P es (second (below_all path_cmp e.0 es) _ h) (λ q m put at. all q m put (in_tail e es q m (first (below_all path_cmp e.0 es) _ h) at)) in
-        (elim (f e) as (λ o. f e ≡ o → Each P (cons_option o (filter_map f es))) [
+        let rest : AllByRecursion P (filter_map f es) = each-put P es (second (below_all path_cmp e.0 es) _ h) (λ q m put at. all q m put (in_tail e es q m (first (below_all path_cmp e.0 es) _ h) at)) in
+        (elim (f e) as (λ o. f e ≡ o → AllByRecursion P (cons_option o (filter_map f es))) [
           | None ↦ λ t. rest
           | Some put ↦ λ t. (all e.0 e.1 put (head_at e es) t, rest)
         ]) refl
 
-    each-target : (P : Names → Type 0) (ps : List (Placing (Node B))) → Each (λ put. P (target put)) ps → Each P (targets ps)
+    each-target : (P : Names → Type 0) (ps : List (Placing (Node B))) → AllByRecursion (λ put. P (target put)) ps → AllByRecursion P (targets ps)
     each-target P [] h = tt
     each-target P (put ∷ ps) h = (h.0, each-target P ps h.1)
 
@@ -73,20 +73,20 @@ module _ {B : Type 0} where
     rises-targets land [] h = tt
     rises-targets land (e ∷ es) h =
         let rest : Rises (targets (filter_map f es)) = rises-targets land es (second (below_all path_cmp e.0 es) _ h) in
-        let above : Each (λ later. rest_below later e.0 ≡ None) (targets (filter_map f es)) = each-target (λ later. rest_below later e.0 ≡ None) (filter_map f es)
+        let above : AllByRecursion (λ later. rest_below later e.0 ≡ None) (targets (filter_map f es)) = each-target (λ later. rest_below later e.0 ≡ None) (filter_map f es)
             (each-put (λ put. rest_below (target put) e.0 ≡ None) es (second (below_all path_cmp e.0 es) _ h)
             (λ q m put at is. ap (λ (x : Names). rest_below x e.0) (land q m put is) ∙ before-none e.0 q (below-so e.0 es q m (first (below_all path_cmp e.0 es) _ h) at))) in
         (elim (f e) as (λ o. f e ≡ o → Rises (targets (cons_option o (filter_map f es)))) [
           | None ↦ λ t. rest
-          | Some put ↦ λ t. (subst (λ (x : Names). Each (λ later. rest_below later x ≡ None) (targets (filter_map f es))) (sym (land e.0 e.1 put t)) above, rest)
+          | Some put ↦ λ t. (subst (λ (x : Names). AllByRecursion (λ later. rest_below later x ≡ None) (targets (filter_map f es))) (sym (land e.0 e.1 put t)) above, rest)
         ]) refl
 
   linked : (all before : List Names) (ps : List (Placing (Node B))) → all ≡ before ++ targets ps → Rises all → IsLinked (is_in all) ps
   linked all before [] e rises = tt
   linked all before (put ∷ ps) e rises =
       let there : Rises (before ++ target put ∷ targets ps) = subst Rises e rises in
-      let later : Each (λ later. rest_below later (target put) ≡ None) (targets ps) = pairwise-after (λ path later. rest_below later path ≡ None) before (target put) (targets ps) there in
-      let earlier : Each (λ path. rest_below (target put) path ≡ None) before = pairwise-before (λ path later. rest_below later path ≡ None) before (target put) (targets ps) there in
+      let later : AllByRecursion (λ later. rest_below later (target put) ≡ None) (targets ps) = pairwise-after (λ path later. rest_below later path ≡ None) before (target put) (targets ps) there in
+      let earlier : AllByRecursion (λ path. rest_below (target put) path ≡ None) before = pairwise-before (λ path later. rest_below later path ≡ None) before (target put) (targets ps) there in
       (later,
        (λ r. hits-right before (target put) (targets ps) r earlier later ∙ ap (λ (paths : List Names). cuts (λ x. is_in paths (target put ++ x)) r) (sym e)),
        linked all (before ++ target put ∷ []) ps (e ∙ sym (append_assoc before (target put ∷ []) (targets ps))) rises)
@@ -131,10 +131,10 @@ module _ {B : Type 0} (from to : Tree B) (is : IsPair from to) (tmp : List ℕ) 
       let there : place_of to x.id ≡ Some ([], is.to_root) = place_of-here to is.to_tree [] is.to_root x.id is.to_at (ap (λ (n : Node B). n.id.0) root ∙ is.same_root) in
       true_false go (ap (goes_by from to p) there ∙ ap (λ (q : Names). not (same_place from to q [])) e)
 
-  each-out : (P : Names → Type 0) → ((p : Names) (x : Node B) → node_at from p ≡ Some x → goes from to (p, x) ≡ true → P p) → Each P (outs from to)
+  each-out : (P : Names → Type 0) → ((p : Names) (x : Node B) → node_at from p ≡ Some x → goes from to (p, x) ≡ true → P p) → AllByRecursion P (outs from to)
   each-out P all = each-reverse P (map path_of_place (filter (goes from to) from)) (each-filter P (goes from to) from is.from_tree.sorted all)
 
-  pub outs-outside-tmp : Each (IsOutside tmp) (outs from to)
+  pub outs-outside-tmp : AllByRecursion (IsOutside tmp) (outs from to)
   outs-outside-tmp = each-out (IsOutside tmp) (λ p x at go. outside-so from is.from_tree from_free p x (goes-below p x at go) at)
 
   pub outs-fall : NoneBelow (outs from to)
@@ -158,7 +158,7 @@ module _ {B : Type 0} (from to : Tree B) (is : IsPair from to) (tmp : List ℕ) 
       not-below : (p : Names) → (p ≡ [] → ⊥) → rest_below p [] ≡ None
       not-below [] below = absurd (below refl)
       not-below (n ∷ p) below = refl
-      no-root : (ps : List (Placing (Node B))) → Each (λ p. rest_below p [] ≡ None) (targets ps)
+      no-root : (ps : List (Placing (Node B))) → AllByRecursion (λ p. rest_below p [] ≡ None) (targets ps)
       no-root [] = tt
       no-root (Back i above name ∷ ps) = (not-below (above ++ name ∷ []) (not_last above name), no-root ps)
       no-root (New node above name ∷ ps) = (not-below (above ++ name ∷ []) (not_last above name), no-root ps)
@@ -207,7 +207,7 @@ module _ {B : Type 0} (from to : Tree B) (is : IsPair from to) (tmp : List ℕ) 
   held p is_out r =
       let at : (before : List Names) × (after : List Names) × (outs from to ≡ before ++ p ∷ after) × (index_of (outs from to) p ≡ length before) = split (outs from to) p is_out in
       let fall : NoneBelow (at.0 ++ p ∷ at.1) = subst NoneBelow at.2 outs-fall in
-      let out : Each (IsOutside tmp) (at.0 ++ p ∷ at.1) = subst (Each (IsOutside tmp)) at.2 outs-outside-tmp in
+      let out : AllByRecursion (IsOutside tmp) (at.0 ++ p ∷ at.1) = subst (AllByRecursion (IsOutside tmp)) at.2 outs-outside-tmp in
       let p_out : IsOutside tmp p = each-middle at.0 p at.1 out in
       ap (λ (paths : List Names). outs_done tmp number begun 0 paths (tmp ∷ number (index_of (outs from to) p) ∷ r)) at.2
       ∙ ap (λ i. outs_done tmp number begun 0 (at.0 ++ p ∷ at.1) (tmp ∷ number i ∷ r)) {y = 0 + length at.0} (let e : index_of (outs from to) p ≡ length at.0 = at.3 in omega arith)
@@ -216,13 +216,13 @@ module _ {B : Type 0} (from to : Tree B) (is : IsPair from to) (tmp : List ℕ) 
       ∙ ap (λ b. unless b (node_at from (p ++ r))) (hits-left at.0 p at.1 r (pairwise-before (λ path later. rest_below path later ≡ None) at.0 p at.1 fall) (pairwise-after (λ path later. rest_below path later ≡ None) at.0 p at.1 fall))
       ∙ ap (λ (paths : List Names). unless (cuts (λ x. is_in paths (p ++ x)) r) (node_at from (p ++ r))) (sym at.2)
     where
-      each-middle : (xs : List Names) (x : Names) (ys : List Names) → Each (IsOutside tmp) (xs ++ x ∷ ys) → IsOutside tmp x
+      each-middle : (xs : List Names) (x : Names) (ys : List Names) → AllByRecursion (IsOutside tmp) (xs ++ x ∷ ys) → IsOutside tmp x
       each-middle [] x ys h = h.0
       each-middle (z ∷ zs) x ys h = each-middle zs x ys h.1
-      each-front : (xs : List Names) (x : Names) (ys : List Names) → Each (IsOutside tmp) (xs ++ x ∷ ys) → Each (IsOutside tmp) xs
+      each-front : (xs : List Names) (x : Names) (ys : List Names) → AllByRecursion (IsOutside tmp) (xs ++ x ∷ ys) → AllByRecursion (IsOutside tmp) xs
       each-front [] x ys h = tt
       each-front (z ∷ zs) x ys h = (h.0, each-front zs x ys h.1)
-      each-back : (xs : List Names) (x : Names) (ys : List Names) → Each (IsOutside tmp) (xs ++ x ∷ ys) → Each (IsOutside tmp) ys
+      each-back : (xs : List Names) (x : Names) (ys : List Names) → AllByRecursion (IsOutside tmp) (xs ++ x ∷ ys) → AllByRecursion (IsOutside tmp) ys
       each-back [] x ys h = h.1
       each-back (z ∷ zs) x ys h = each-back zs x ys h.1
 
@@ -254,10 +254,10 @@ module _ {B : Type 0} (from to : Tree B) (is : IsPair from to) (tmp : List ℕ) 
             (λ f. inl (ap (if_old from) c_at ∙ ap (λ b. cond b (Some c) None) f)))
           (λ gone. inl (ap (if_old from) gone))
 
-  all-ready : Each IsReady (placings from to)
+  all-ready : AllByRecursion IsReady (placings from to)
   all-ready = each-put (placing_at from to) IsReady to is.to_tree.sorted ready-one
 
-  pub targets-outside : Each (IsOutside tmp) (targets (placings from to))
+  pub targets-outside : AllByRecursion (IsOutside tmp) (targets (placings from to))
   targets-outside = each-target (placing_at from to) (IsOutside tmp) (placings from to) (each-put (placing_at from to) (λ put. IsOutside tmp (target put)) to is.to_tree.sorted
       (λ q m put at h. put-parts q m put h
         (λ above name old e from_at moves is_put. in_place q m put at h above name e)
@@ -302,7 +302,7 @@ module _ {B : Type 0} (from to : Tree B) (is : IsPair from to) (tmp : List ℕ) 
       not-again : (i : ℕ) (other : Placing (Node B)) → (IsBackAt i other → ⊥) → IsOther i other
       not-again i (Back j above name) new = λ same. new (sym same)
       not-again i (New node above name) new = tt
-      with-put : (put : Placing (Node B)) → NumberOnce (filter_map (placing_at from to) es) → ((i : ℕ) → IsBackAt i put → Each (IsOther i) (filter_map (placing_at from to) es)) → NumberOnce (put ∷ filter_map (placing_at from to) es)
+      with-put : (put : Placing (Node B)) → NumberOnce (filter_map (placing_at from to) es) → ((i : ℕ) → IsBackAt i put → AllByRecursion (IsOther i) (filter_map (placing_at from to) es)) → NumberOnce (put ∷ filter_map (placing_at from to) es)
       with-put (Back i above name) rest others = (others i refl, rest)
       with-put (New node above name) rest others = rest
 

@@ -1,7 +1,7 @@
 -- What is new, by lines and listings.
 use Rattle.std.proofs.Common.{◌≡◌, ℕ, true, false, ◌||◌, cond, Option, Some, None, List, [], ◌∷◌, ◌++◌, refl, ap, sym, ◌∙◌}
 use Rattle.std.specs.Prelude.{not, ◌&&◌, ◌==◌}
-use Rattle.std.specs.List.{filter_map, flat_map}
+use Rattle.std.specs.List.{filter_map, flat_map, AllByRecursion}
 use Rattle.std.proofs.lemmas.Bool.Decides.{Decides-eqb}
 use Rattle.hs_types.specs.Names.{Names}
 use Rattle.hs_types.specs.declared.ids.InodeId.{InodeId}
@@ -10,7 +10,6 @@ use Rattle.hs_plain.specs.Tree.{Tree, node_at, same_inode, place_of}
 use Rattle.hs_plain.proofs.ValidTrees.{first, second}
 use Rattle.hs_plain.proofs.ValidShapes.{none_some, true_false}
 use Rattle.hs_plain.proofs.ValidPlaces.{by_place}
-use Rattle.plan_laws.specs.Sight.{Each}
 use Rattle.hs_types.specs.declared.reply.LineKind.{LineKind}
 use Rattle.hs_types.specs.declared.reply.LineKind.TheVariants.{Deleted, Renamed, Modified, Created}
 use Rattle.hs_types.specs.declared.reply.Line.{Line}
@@ -78,7 +77,7 @@ module _ {B : Type 0} (from to : Tree B) (is : IsPair from to) where
          ∙ ap (λ b. b || renames_id (line_if (not (old.1.stamp == c.stamp)) (line_of Modified old.0 None old.1) []) c.id) ((Decides-eqb old.1.id.0 c.id.0).1 so.1)))
 
   -- and a node that wasn't there has none
-  pub not-renamed : (id : InodeId) → place_of from id ≡ None → ((lines : List Line) → Each (λ one. (t : Names) → one.kind ≡ Renamed → one.to ≡ Some t → (p : Names) × (x : Node B) × (node_at from p ≡ Some x) × (x.id.0 ≡ one.id.0)) lines → renames_id lines id ≡ false)
+  pub not-renamed : (id : InodeId) → place_of from id ≡ None → ((lines : List Line) → AllByRecursion (λ one. (t : Names) → one.kind ≡ Renamed → one.to ≡ Some t → (p : Names) × (x : Node B) × (node_at from p ≡ Some x) × (x.id.0 ≡ one.id.0)) lines → renames_id lines id ≡ false)
   not-renamed id none [] each = refl
   not-renamed id none (one ∷ lines) each = by (is_renaming one.kind one.to && same_inode one.id id)
       (λ t. absurd (by-kind one.kind one.to refl refl (first (is_renaming one.kind one.to) (same_inode one.id id) t) (second (is_renaming one.kind one.to) (same_inode one.id id) t)))

@@ -1,8 +1,9 @@
 -- Where the nodes of a tree stand after the outs, and that each out is accepted.
+use Rattle.std.specs.List.{AllByRecursion}
 use Rattle.std.proofs.Common.{◌≡◌, ℕ, ◌+◌, ◌<◌, ◌≤◌, Bool, true, false, ◌||◌, Option, Some, None, is_some, List, [], ◌∷◌, ◌++◌, length, refl, ap, sym, ◌∙◌, append-nil, arith}
 use Rattle.hs_types.specs.Names.{Names}
 use Rattle.hs_plain.specs.Plan.{rest_below}
-use Rattle.plan_laws.specs.Sight.{Sight, is_at_or_below, hits, inside_or, moved_sight, unless, outs_done, Each, NoneBelow, IsOutside, OutsGo}
+use Rattle.plan_laws.specs.Sight.{Sight, is_at_or_below, hits, inside_or, moved_sight, unless, outs_done, NoneBelow, IsOutside, OutsGo}
 use Rattle.plan_laws.proofs.Paths.{rest-here, none-deeper, outside-none, outside-other, other-child, not-itself}
 
 module _ {X : Type 0} (tmp : List ℕ) (number : ℕ → List ℕ) (once : (i j : ℕ) → number i ≡ number j → i ≡ j) where
@@ -46,17 +47,17 @@ module _ {X : Type 0} (tmp : List ℕ) (number : ℕ → List ℕ) (once : (i j 
   moved-elsewhere : (s : Sight X) (k : ℕ) (p q r : Names) → IsOutside tmp q → moved_sight s p (tmp ∷ number k ∷ []) (q ++ r) ≡ unless (is_at_or_below p (q ++ r)) (s (q ++ r))
   moved-elsewhere s k p q r out = moved-outside s k p (q ++ r) (outside-none tmp [] q r out)
 
-  outs-kept : (paths : List Names) (s : Sight X) (k j : ℕ) (r : Names) → Each (IsOutside tmp) paths → j < k → outs_done tmp number s k paths (tmp ∷ number j ∷ r) ≡ s (tmp ∷ number j ∷ r)
+  outs-kept : (paths : List Names) (s : Sight X) (k j : ℕ) (r : Names) → AllByRecursion (IsOutside tmp) paths → j < k → outs_done tmp number s k paths (tmp ∷ number j ∷ r) ≡ s (tmp ∷ number j ∷ r)
   outs-kept [] s k j r out less = refl
   outs-kept (p ∷ ps) s k j r out less =
       outs-kept ps (moved_sight s p (tmp ∷ number k ∷ [])) (k + 1) j r out.1 (omega arith) ∙ moved-kept s k j p r out.0 (λ e. absurd (omega arith))
 
-  pub outs-top : (paths : List Names) (s : Sight X) (k : ℕ) → Each (IsOutside tmp) paths → outs_done tmp number s k paths (tmp ∷ []) ≡ s (tmp ∷ [])
+  pub outs-top : (paths : List Names) (s : Sight X) (k : ℕ) → AllByRecursion (IsOutside tmp) paths → outs_done tmp number s k paths (tmp ∷ []) ≡ s (tmp ∷ [])
   outs-top [] s k out = refl
   outs-top (p ∷ ps) s k out = outs-top ps (moved_sight s p (tmp ∷ number k ∷ [])) (k + 1) out.1 ∙ moved-top s k p out.0
 
   -- in tmp under an out's number stands what stood at its path and below, but for what an earlier out had taken
-  pub outs-inside : (before : List Names) (p : Names) (after : List Names) (s : Sight X) (k : ℕ) (r : Names) → Each (IsOutside tmp) before → IsOutside tmp p → Each (IsOutside tmp) after →
+  pub outs-inside : (before : List Names) (p : Names) (after : List Names) (s : Sight X) (k : ℕ) (r : Names) → AllByRecursion (IsOutside tmp) before → IsOutside tmp p → AllByRecursion (IsOutside tmp) after →
       outs_done tmp number s k (before ++ p ∷ after) (tmp ∷ number (k + length before) ∷ r) ≡ unless (hits before (p ++ r)) (s (p ++ r))
   outs-inside [] p after s k r before_out out after_out =
       ap (λ i. outs_done tmp number (moved_sight s p (tmp ∷ number k ∷ [])) (k + 1) after (tmp ∷ number i ∷ r)) (omega arith)
@@ -70,14 +71,14 @@ module _ {X : Type 0} (tmp : List ℕ) (number : ℕ → List ℕ) (once : (i j 
   -- ---- each out is accepted
 
   module _ (is_dir : X → Bool) where
-    still-there : (s : Sight X) (k : ℕ) (p : Names) (paths : List Names) → Each (IsOutside tmp) paths → Each (λ later. rest_below p later ≡ None) paths →
-        Each (λ path. is_some (s path) ≡ true) paths → Each (λ path. is_some (moved_sight s p (tmp ∷ number k ∷ []) path) ≡ true) paths
+    still-there : (s : Sight X) (k : ℕ) (p : Names) (paths : List Names) → AllByRecursion (IsOutside tmp) paths → AllByRecursion (λ later. rest_below p later ≡ None) paths →
+        AllByRecursion (λ path. is_some (s path) ≡ true) paths → AllByRecursion (λ path. is_some (moved_sight s p (tmp ∷ number k ∷ []) path) ≡ true) paths
     still-there s k p [] out apart there = tt
     still-there s k p (q ∷ qs) out apart there =
         (ap is_some (ap (moved_sight s p (tmp ∷ number k ∷ [])) (sym (append-nil q)) ∙ moved-elsewhere s k p q [] out.0 ∙ ap (λ (x : Names). unless (is_at_or_below p x) (s x)) (append-nil q) ∙ ap (λ (o : Option Names). unless (is_some o) (s q)) apart.0) ∙ there.0,
          still-there s k p qs out.1 apart.1 there.1)
 
-    pub outs-go : (paths : List Names) (s : Sight X) (k : ℕ) → Each (IsOutside tmp) paths → NoneBelow paths → Each (λ path. is_some (s path) ≡ true) paths →
+    pub outs-go : (paths : List Names) (s : Sight X) (k : ℕ) → AllByRecursion (IsOutside tmp) paths → NoneBelow paths → AllByRecursion (λ path. is_some (s path) ≡ true) paths →
         ((node : X) × (s (tmp ∷ []) ≡ Some node) × (is_dir node ≡ true)) → ((j : ℕ) → k ≤ j → s (tmp ∷ number j ∷ []) ≡ None) → OutsGo is_dir tmp number s k paths
     outs-go [] s k out apart there top free = tt
     outs-go (p ∷ ps) s k out apart there top free =

@@ -1,8 +1,9 @@
 -- What stands after the puts, and that each put is accepted.
+use Rattle.std.specs.List.{AllByRecursion}
 use Rattle.std.proofs.Common.{◌≡◌, ◌⊎◌, ℕ, Bool, true, false, ◌||◌, Option, Some, None, is_some, List, [], ◌∷◌, ◌++◌, refl, ap, sym, subst, ◌∙◌, append-nil}
 use Rattle.hs_types.specs.Names.{Names}
 use Rattle.hs_plain.specs.Plan.{rest_below}
-use Rattle.plan_laws.specs.Sight.{Sight, hits, inside_or, moved_sight, at_top, made_sight, unless, cuts, Both, Each, IsOutside, Placing, Back, New, targets, puts_done, PutsGo, Differ, Ready, IsOther, NumberOnce, IsLinked, Stands, HasDirs}
+use Rattle.plan_laws.specs.Sight.{Sight, hits, inside_or, moved_sight, at_top, made_sight, unless, cuts, Both, IsOutside, Placing, Back, New, targets, puts_done, PutsGo, Differ, Ready, IsOther, NumberOnce, IsLinked, Stands, HasDirs}
 use Rattle.plan_laws.proofs.Paths.{by_one, rest-here, rest-so, none-shorter, none-above, none-deeper, outside-none, outside-other, other-child, not-itself}
 use Rattle.plan_laws.proofs.Alike.{both-at, alike-below, below-put}
 
@@ -14,7 +15,7 @@ here_some : {X : Type 0} (Alike : X → X → Type 0) (o : Option X) (b : X) →
 here_some Alike None b h = absurd h
 here_some Alike (Some a) b h = (a, refl, h)
 
-no-hits : (paths : List Names) (q r : Names) → Each (λ path. rest_below path (q ++ r) ≡ None) paths → hits paths q ≡ false
+no-hits : (paths : List Names) (q r : Names) → AllByRecursion (λ path. rest_below path (q ++ r) ≡ None) paths → hits paths q ≡ false
 no-hits [] q r none = refl
 no-hits (a ∷ others) q r none = ap (λ o. is_some o || hits others q) (none-shorter a q r none.0) ∙ no-hits others q r none.1
 
@@ -31,7 +32,7 @@ module _ {X : Type 0} (Alike : X → X → Type 0) (from to : Sight X) (is_out i
   new-kept : (s : Sight X) (t : Names) (node : X) (q : Names) → IsOutside tmp t → made_sight s t node (tmp ∷ q) ≡ s (tmp ∷ q)
   new-kept s t node q out = ap (λ o. inside_or o (at_top node (s (tmp ∷ q))) (s (tmp ∷ q))) (outside-other tmp t q out)
 
-  pub puts-top : (puts : List (Placing X)) (s : Sight X) → Each (IsOutside tmp) (targets puts) → puts_done tmp number s puts (tmp ∷ []) ≡ s (tmp ∷ [])
+  pub puts-top : (puts : List (Placing X)) (s : Sight X) → AllByRecursion (IsOutside tmp) (targets puts) → puts_done tmp number s puts (tmp ∷ []) ≡ s (tmp ∷ [])
   puts-top [] s out = refl
   puts-top (Back i above name ∷ puts) s out =
       puts-top puts (moved_sight s (tmp ∷ number i ∷ []) (above ++ name ∷ [])) out.1
@@ -50,11 +51,11 @@ module _ {X : Type 0} (Alike : X → X → Type 0) (from to : Sight X) (is_out i
   ready-new s t node out (Back j above name) is = (is.0, is.1, is.2, is.3, is.4, is.5, λ r. new-kept s t node (number j ∷ r) out ∙ is.6 r)
   ready-new s t node out (New other above name) is = is
 
-  all-ready-back : (s : Sight X) (i : ℕ) (t : Names) → IsOutside tmp t → (puts : List (Placing X)) → Each (IsOther i) puts → Each (Is s) puts → Each (Is (moved_sight s (tmp ∷ number i ∷ []) t)) puts
+  all-ready-back : (s : Sight X) (i : ℕ) (t : Names) → IsOutside tmp t → (puts : List (Placing X)) → AllByRecursion (IsOther i) puts → AllByRecursion (Is s) puts → AllByRecursion (Is (moved_sight s (tmp ∷ number i ∷ []) t)) puts
   all-ready-back s i t out [] others are = tt
   all-ready-back s i t out (put ∷ puts) others are = (ready-back s i t out put others.0 are.0, all-ready-back s i t out puts others.1 are.1)
 
-  all-ready-new : (s : Sight X) (t : Names) (node : X) → IsOutside tmp t → (puts : List (Placing X)) → Each (Is s) puts → Each (Is (made_sight s t node)) puts
+  all-ready-new : (s : Sight X) (t : Names) (node : X) → IsOutside tmp t → (puts : List (Placing X)) → AllByRecursion (Is s) puts → AllByRecursion (Is (made_sight s t node)) puts
   all-ready-new s t node out [] are = tt
   all-ready-new s t node out (put ∷ puts) are = (ready-new s t node out put are.0, all-ready-new s t node out puts are.1)
 
@@ -102,7 +103,7 @@ module _ {X : Type 0} (Alike : X → X → Type 0) (from to : Sight X) (is_out i
 
   -- ---- all puts
 
-  pub puts-stand : (puts : List (Placing X)) (s : Sight X) → Each (IsOutside tmp) (targets puts) → NumberOnce puts → IsLinked is_put puts → Each (Is s) puts → Stands Alike to tmp s (targets puts) →
+  pub puts-stand : (puts : List (Placing X)) (s : Sight X) → AllByRecursion (IsOutside tmp) (targets puts) → NumberOnce puts → IsLinked is_put puts → AllByRecursion (Is s) puts → Stands Alike to tmp s (targets puts) →
       Stands Alike to tmp (puts_done tmp number s puts) []
   puts-stand [] s out once linked are stands = stands
   puts-stand (Back i above name ∷ puts) s out once linked are stands =
@@ -121,7 +122,7 @@ module _ {X : Type 0} (Alike : X → X → Type 0) (from to : Sight X) (is_out i
     above-outside above name out = none-shorter (tmp ∷ []) above (name ∷ []) (ap (rest_below (tmp ∷ [])) (sym (append-nil (above ++ name ∷ []))) ∙ outside-none tmp [] (above ++ name ∷ []) [] out)
 
     dir-above : (s : Sight X) (above : Names) (name : List ℕ) (paths : List Names) (b : X) → IsOutside tmp (above ++ name ∷ []) → to (above ++ name ∷ []) ≡ Some b →
-        Each (λ later. rest_below later (above ++ name ∷ []) ≡ None) paths → Stands Alike to tmp s ((above ++ name ∷ []) ∷ paths) → (node : X) × (s above ≡ Some node) × (is_dir node ≡ true)
+        AllByRecursion (λ later. rest_below later (above ++ name ∷ []) ≡ None) paths → Stands Alike to tmp s ((above ++ name ∷ []) ∷ paths) → (node : X) × (s above ≡ Some node) × (is_dir node ≡ true)
     dir-above s above name paths b out there apart stands =
         let d : (dir : X) × (to above ≡ Some dir) × (is_dir dir ≡ true) = dirs above name b there in
         let clear : hits ((above ++ name ∷ []) ∷ paths) above ≡ false = ap (λ o. is_some o || hits paths above) (none-above above name) ∙ no-hits paths above (name ∷ []) apart in
@@ -133,7 +134,7 @@ module _ {X : Type 0} (Alike : X → X → Type 0) (from to : Sight X) (is_out i
         (subst (λ c. Both Alike (s t) (unless c (to t))) (ap (λ (x : Names). is_some (rest_below t x) || hits paths t) (sym (append-nil t)) ∙ ap (λ o. is_some o || hits paths t) (rest-here t []))
          (stands t (ap (rest_below (tmp ∷ [])) (sym (append-nil t)) ∙ outside-none tmp [] t [] out)))
 
-    pub puts-go : (puts : List (Placing X)) (s : Sight X) → Each (IsOutside tmp) (targets puts) → NumberOnce puts → IsLinked is_put puts → Each (Is s) puts → Stands Alike to tmp s (targets puts) →
+    pub puts-go : (puts : List (Placing X)) (s : Sight X) → AllByRecursion (IsOutside tmp) (targets puts) → NumberOnce puts → IsLinked is_put puts → AllByRecursion (Is s) puts → Stands Alike to tmp s (targets puts) →
         PutsGo is_dir tmp number s puts
     puts-go [] s out once linked are stands = tt
     puts-go (Back i above name ∷ puts) s out once linked are stands =

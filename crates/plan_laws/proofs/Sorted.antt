@@ -1,6 +1,6 @@
 -- What is put together in any order is the list by rising paths.
 use Rattle.std.proofs.Common.{◌≡◌, Bool, true, false, ◌||◌, cond, Option, Some, None, List, [], ◌∷◌, map, refl, ap, sym, ◌∙◌}
-use Rattle.std.specs.List.{filter_map, cons_option}
+use Rattle.std.specs.List.{filter_map, cons_option, AllByRecursion}
 use Rattle.std.specs.Option.{option_map}
 use Rattle.std.specs.Ordering.{eq_by_cmp, is_lt}
 use Rattle.std.specs.FinMap.Entries.{find, put, find-put, is_sorted, below_all, is_sorted-put, same_entries}
@@ -10,7 +10,6 @@ use Rattle.hs_plain.specs.Tree.{Tree, path_cmp, node_at}
 use Rattle.hs_plain.proofs.ValidTrees.{paths_total, paths_exact, holds_so, is_so, both, first, second}
 use Rattle.hs_plain.proofs.ValidShapes.{true_false, same_so}
 use Rattle.hs_plain.proofs.ValidPlaces.{missing_below}
-use Rattle.plan_laws.specs.Sight.{Each}
 use Rattle.plan_laws.specs.Sorted.{put_entries, has_path, look_by, look, entries, IsListing}
 use Rattle.plan_laws.proofs.Paths.{by, by_one}
 
@@ -52,7 +51,7 @@ module _ {B V : Type 0} (f : Names × Node B → Option V) where
   sorted-made [] acc h = h
   sorted-made (e ∷ es) acc h = sorted-made es (put path_cmp e.0 e.1 acc) (is_so _ (is_sorted-put path_cmp paths_total e.0 e.1 acc (holds_so h)))
 
-  find-made : (tree : Tree B) (q : Names) (list acc : List (Names × V)) → Each (λ one. look f tree one.0 ≡ Some one.1) list → find path_cmp q (put_entries acc list) ≡ cond (has_path list q) (look f tree q) (find path_cmp q acc)
+  find-made : (tree : Tree B) (q : Names) (list acc : List (Names × V)) → AllByRecursion (λ one. look f tree one.0 ≡ Some one.1) list → find path_cmp q (put_entries acc list) ≡ cond (has_path list q) (look f tree q) (find path_cmp q acc)
   find-made tree q [] acc sound = refl
   find-made tree q (e ∷ es) acc sound =
       find-made tree q es (put path_cmp e.0 e.1 acc) sound.1

@@ -31,7 +31,7 @@ use Rattle.hs_plain.proofs.ValidAsked.{same_ok}
 use Rattle.hs_plain.proofs.ValidNodes.{shape, shape_some}
 use Rattle.hs_plain.proofs.ValidShapes.{Shape}
 use Rattle.hs_plain.proofs.Validity.{valid-after}
-use Rattle.plan_laws.specs.Sight.{moved_sight, made_sight, outs_done, Placing, Back, New, targets, puts_done, Each, IsOutside as IsNotIn, OutsGo, PutsGo}
+use Rattle.plan_laws.specs.Sight.{moved_sight, made_sight, outs_done, Placing, Back, New, targets, puts_done, IsOutside as IsNotIn, OutsGo, PutsGo}
 use Rattle.plan_laws.specs.Placings.{placing_at, placings}
 use Rattle.plan_laws.specs.Pair.{IsTree, IsPair}
 use Rattle.plan_laws.specs.Copies.{Content, Contents, CopyCall, Create, Append, path_of_call, call_done, calls_done, CallGoes, CallsGo, is_dir_seen, is_file_seen, without_sight, content_of, content_put, after_outs, after_puts, after_sync, IsMerging, SyncGoes}
@@ -224,7 +224,7 @@ module _ (tmp : List ℕ) (number : ℕ → List ℕ) where
   out-below [] out e = out
   out-below (n ∷ p) out e = cc
 
-  outs-steps : (paths : List Names) (seen : Contents) (k : ℕ) → Each (IsNotIn tmp) paths → OutsGo is_dir_body tmp number seen k paths → StepsGo seen (out_steps tmp number k paths)
+  outs-steps : (paths : List Names) (seen : Contents) (k : ℕ) → AllByRecursion (IsNotIn tmp) paths → OutsGo is_dir_body tmp number seen k paths → StepsGo seen (out_steps tmp number k paths)
   outs-steps [] seen k out go = tt
   outs-steps (p ∷ ps) seen k out go = ((go.0, out-below p out.0, outside-other tmp p (number k ∷ []) out.0), outs-steps ps (moved_sight seen p (tmp ∷ number k ∷ [])) (k + 1) out.1 go.1)
 
@@ -232,12 +232,12 @@ module _ (tmp : List ℕ) (number : ℕ → List ℕ) where
   IsDirNew (Back i above name) = Unit {0}
   IsDirNew (New node above name) = node.body ≡ Dir
 
-  puts-all : (ps : List (Placing (Node (List ℕ)))) (seen : Contents) → Each IsDirNew ps → steps_done seen (map (put_step tmp number) ps) ≡ puts_done tmp number seen (map content_put ps)
+  puts-all : (ps : List (Placing (Node (List ℕ)))) (seen : Contents) → AllByRecursion IsDirNew ps → steps_done seen (map (put_step tmp number) ps) ≡ puts_done tmp number seen (map content_put ps)
   puts-all [] seen dirs = refl
   puts-all (Back i above name ∷ ps) seen dirs = puts-all ps (moved_sight seen (tmp ∷ number i ∷ []) (above ++ name ∷ [])) dirs.1
   puts-all (New node above name ∷ ps) seen dirs = puts-all ps (made_sight seen (above ++ name ∷ []) Dir) dirs.1 ∙ ap (λ b. puts_done tmp number (made_sight seen (above ++ name ∷ []) b) (map content_put ps)) (sym dirs.0)
 
-  puts-steps : (ps : List (Placing (Node (List ℕ)))) (seen : Contents) → Each IsDirNew ps → Each (IsNotIn tmp) (targets ps) → PutsGo is_dir_body tmp number seen (map content_put ps) → StepsGo seen (map (put_step tmp number) ps)
+  puts-steps : (ps : List (Placing (Node (List ℕ)))) (seen : Contents) → AllByRecursion IsDirNew ps → AllByRecursion (IsNotIn tmp) (targets ps) → PutsGo is_dir_body tmp number seen (map content_put ps) → StepsGo seen (map (put_step tmp number) ps)
   puts-steps [] seen dirs out go = tt
   puts-steps (Back i above name ∷ ps) seen dirs out go =
       ((go.0, not-empty i, ap (rest_below (tmp ∷ number i ∷ [])) (sym (append-nil (above ++ name ∷ []))) ∙ outside-none tmp (number i ∷ []) (above ++ name ∷ []) [] out.0),
@@ -268,7 +268,7 @@ module _ (tmp : List ℕ) (number : ℕ → List ℕ) (from to : Tree (List ℕ)
   dir-seen None h = absurd (true_false h refl)
   dir-seen (Some d) h = (d, refl, h)
 
-  new-dirs : Each (IsDirNew tmp number) (placings from to)
+  new-dirs : AllByRecursion (IsDirNew tmp number) (placings from to)
   new-dirs = each-put (placing_at from to) (IsDirNew tmp number) to is.to_tree.sorted
       (λ q m put at h. put-parts from to is tmp number once top refl from_free to_free q m put h
         (λ above name old e from_at moves is_put. subst (IsDirNew tmp number) (sym is_put) tt)

@@ -1,7 +1,7 @@
 -- A path of the first tree is translated to the path of its node in the second.
 use Rattle.std.proofs.Common.{◌≡◌, ℕ, suc, ◌+◌, ◌≤◌, ◌<◌, Bool, true, false, ◌||◌, bytes_eq, cond, Option, Some, None, is_some, List, [], ◌∷◌, ◌++◌, length, refl, ap, sym, subst, ◌∙◌, append-nil, append_assoc, arith, length-append}
 use Rattle.std.specs.Prelude.{not, ◌&&◌, ◌==◌, nat_lt}
-use Rattle.std.specs.List.{filter_map, flat_map, cons_option}
+use Rattle.std.specs.List.{filter_map, flat_map, cons_option, AllByRecursion}
 use Rattle.std.specs.FinMap.Entries.{is_sorted, below_all}
 use Rattle.std.proofs.lemmas.Bool.{ltb-true, ltb-false}
 use Rattle.std.proofs.lemmas.Bool.Decides.{Decides-eqb}
@@ -13,7 +13,6 @@ use Rattle.hs_plain.proofs.ValidTrees.{first, second}
 use Rattle.hs_plain.proofs.ValidShapes.{none_some, same_some, true_false, by_last, not_last}
 use Rattle.hs_plain.proofs.ValidPlaces.{head_at, in_tail, by_place, one_place}
 use Rattle.hs_plain.specs.Plan.{rest_below, is_renamed, Lead, lead_of, lead_by, longer, longest, led, translate}
-use Rattle.plan_laws.specs.Sight.{Each}
 use Rattle.hs_plain.specs.Report.{same_place, line_of, line_if, lines_by, lines_from, created_in, created_by, created, place_above, id_above, line_before, with_line, with_lines, report, has_id}
 use Rattle.hs_types.specs.declared.reply.LineKind.{LineKind}
 use Rattle.hs_types.specs.declared.reply.LineKind.TheVariants.{Deleted, Renamed, Modified, Created}
@@ -92,20 +91,20 @@ module _ (path : Names) where
       (λ t. right f (sym (ap (λ c. cond c (Some b) (Some a)) t) ∙ e))
       (λ t. left f (sym (ap (λ c. cond c (Some b) (Some a)) t) ∙ e))
 
-  pub longest-is : (P : Names → Names → Type 0) (lines : List Line) → Each (Renames P) lines → (f : Lead) → longest lines path ≡ Some f → IsLine P f
+  pub longest-is : (P : Names → Names → Type 0) (lines : List Line) → AllByRecursion (Renames P) lines → (f : Lead) → longest lines path ≡ Some f → IsLine P f
   longest-is P [] h f e = absurd (none_some e)
   longest-is P (one ∷ lines) h f e = longer-is (IsLine P) (lead_by one path) (longest lines path) (source-is P one h.0) (longest-is P lines h.1) f e
 
 -- ---- the lines of a report
 
-each-with_line : (P : Line → Type 0) (one : Line) (lines : List Line) → P one → Each P lines → Each P (with_line one lines)
+each-with_line : (P : Line → Type 0) (one : Line) (lines : List Line) → P one → AllByRecursion P lines → AllByRecursion P (with_line one lines)
 each-with_line P one [] h k = (h, tt)
-each-with_line P one (other ∷ lines) h k = elim (line_before other one) as (λ b. Each P (cond b (other ∷ with_line one lines) (one ∷ other ∷ lines))) [
+each-with_line P one (other ∷ lines) h k = elim (line_before other one) as (λ b. AllByRecursion P (cond b (other ∷ with_line one lines) (one ∷ other ∷ lines))) [
   | true ↦ (k.0, each-with_line P one lines h k.1)
   | false ↦ (h, k)
 ]
 
-pub each-with_lines : (P : Line → Type 0) (more lines : List Line) → Each P more → Each P lines → Each P (with_lines more lines)
+pub each-with_lines : (P : Line → Type 0) (more lines : List Line) → AllByRecursion P more → AllByRecursion P lines → AllByRecursion P (with_lines more lines)
 each-with_lines P [] lines h k = k
 each-with_lines P (one ∷ more) lines h k = each-with_line P one (with_lines more lines) h.0 (each-with_lines P more lines h.1 k)
 
@@ -141,7 +140,7 @@ source-append-right [] ys s h = h
 source-append-right (x ∷ xs) ys s h = or_second (is_renaming x.kind x.to && same_path x.path s) (is_source (xs ++ ys) s) (source-append-right xs ys s h)
 
 module _ {B : Type 0} where
-  pub each-flat : (P : Line → Type 0) (f : Names × Node B → List Line) (tree : Tree B) → is_sorted path_cmp tree ≡ true → ((q : Names) (m : Node B) → node_at tree q ≡ Some m → Each P (f (q, m))) → Each P (flat_map f tree)
+  pub each-flat : (P : Line → Type 0) (f : Names × Node B → List Line) (tree : Tree B) → is_sorted path_cmp tree ≡ true → ((q : Names) (m : Node B) → node_at tree q ≡ Some m → AllByRecursion P (f (q, m))) → AllByRecursion P (flat_map f tree)
   each-flat P f [] h all = tt
   each-flat P f (e ∷ es) h all = each-append P (f e) (flat_map f es) (all e.0 e.1 (head_at e es)) (each-flat P f es (second (below_all path_cmp e.0 es) _ h) (λ q m at. all q m (in_tail e es q m (first (below_all path_cmp e.0 es) _ h) at)))
 
@@ -169,24 +168,24 @@ module _ {B : Type 0} (from to : Tree B) (is : IsPair from to) where
   is_created : Created ≡ Renamed → ⊥
   is_created e = cc
 
-  each-if : (P : Line → Type 0) (b : Bool) (one : Line) (more : List Line) → P one → Each P more → Each P (line_if b one more)
+  each-if : (P : Line → Type 0) (b : Bool) (one : Line) (more : List Line) → P one → AllByRecursion P more → AllByRecursion P (line_if b one more)
   each-if P true one more h k = (h, k)
   each-if P false one more h k = k
 
-  lines-move : (q : Names) (m : Node B) → node_at from q ≡ Some m → Each IsMove (lines_from from to (q, m))
+  lines-move : (q : Names) (m : Node B) → node_at from q ≡ Some m → AllByRecursion IsMove (lines_from from to (q, m))
   lines-move q m at = by_one (place_of to m.id)
-      (λ other h. subst (λ o. Each IsMove (lines_by from to (q, m) o)) (sym h)
+      (λ other h. subst (λ o. AllByRecursion IsMove (lines_by from to (q, m) o)) (sym h)
         (let so : (node_at to other.0 ≡ Some other.1) × (other.1.id.0 ≡ m.id.0) = place_of-so to m.id other is.to_tree.sorted h in
         each-if IsMove (not (same_place from to q other.0)) (line_of Renamed q (Some other.0) m) (line_if (not (m.stamp == other.1.stamp)) (line_of Modified q None m) [])
           (λ t _ e. subst (Leads q) (same_some e) (m, other.1, at, so.0, sym so.1))
           (each-if IsMove (not (m.stamp == other.1.stamp)) (line_of Modified q None m) [] (λ t k _. absurd (is_modified k)) tt)))
-      (λ none. subst (λ o. Each IsMove (lines_by from to (q, m) o)) (sym none) (each-if IsMove (has_id to (id_above from q)) (line_of Deleted q None m) [] (λ t k _. absurd (is_deleted k)) tt))
+      (λ none. subst (λ o. AllByRecursion IsMove (lines_by from to (q, m) o)) (sym none) (each-if IsMove (has_id to (id_above from q)) (line_of Deleted q None m) [] (λ t k _. absurd (is_deleted k)) tt))
 
-  created-move : (tree : Tree B) → Each IsMove (filter_map (created from to) tree)
+  created-move : (tree : Tree B) → AllByRecursion IsMove (filter_map (created from to) tree)
   created-move [] = tt
   created-move (e ∷ es) = each-cons (created-move es) (created from to e) (created-none (place_of from e.1.id))
     where
-      each-cons : Each IsMove (filter_map (created from to) es) → (o : Option Line) → ((one : Line) → o ≡ Some one → IsMove one) → Each IsMove (cons_option o (filter_map (created from to) es))
+      each-cons : AllByRecursion IsMove (filter_map (created from to) es) → (o : Option Line) → ((one : Line) → o ≡ Some one → IsMove one) → AllByRecursion IsMove (cons_option o (filter_map (created from to) es))
       each-cons rest None h = rest
       each-cons rest (Some one) h = (h one refl, rest)
       above-none : (o : Option (Names × Node B)) (one : Line) → created_in e o ≡ Some one → IsMove one
@@ -196,7 +195,7 @@ module _ {B : Type 0} (from to : Tree B) (is : IsPair from to) where
       created-none None one h = above-none (place_above from (id_above to e.0)) one h
       created-none (Some old) one h = absurd (none_some h)
 
-  report-moves : Each IsMove (report from to)
+  report-moves : AllByRecursion IsMove (report from to)
   report-moves = each-with_lines IsMove (filter_map (created from to) to) (flat_map (lines_from from to) from) (created-move to) (each-flat IsMove (lines_from from to) from is.from_tree.sorted lines-move)
 
   -- a node in another place is a source

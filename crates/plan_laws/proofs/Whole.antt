@@ -1,14 +1,14 @@
 -- All calls of a plan.
 use Rattle.std.proofs.Common.{◌≡◌, ℕ, Bool, true, false, ◌||◌, cond, Option, Some, None, is_some, List, [], ◌∷◌, map, refl, ap, sym, subst, ◌∙◌}
 use Rattle.std.specs.Prelude.{not, ◌&&◌}
-use Rattle.std.specs.List.{filter}
+use Rattle.std.specs.List.{filter, AllByRecursion}
 use Rattle.hs_types.specs.Names.{Names}
 use Rattle.hs_plain.specs.declared.state.Node.{Node}
 use Rattle.hs_plain.specs.declared.state.Body.TheVariants.{Dir}
 use Rattle.hs_plain.specs.Tree.{Tree, node_at, is_dir, is_dir_body, parent_of, place_of}
 use Rattle.hs_plain.proofs.ValidShapes.{none_some, same_some, true_false, by_last, parent_of-last}
 use Rattle.hs_plain.specs.Plan.{rest_below, outs, is_other, is_copied}
-use Rattle.plan_laws.specs.Sight.{Sight, inside_or, made_sight, outs_done, puts_done, Both, Each, OutsGo, PutsGo}
+use Rattle.plan_laws.specs.Sight.{Sight, inside_or, made_sight, outs_done, puts_done, Both, OutsGo, PutsGo}
 use Rattle.plan_laws.specs.Placings.{placings}
 use Rattle.plan_laws.specs.Pair.{IsPair, if_old, old_sight, Alike}
 use Rattle.plan_laws.specs.Copies.{Content, Contents, CopyCall, path_of_call, is_at, all_here, is_dir_seen, FitHere, calls_done, CallsGo, IsMerging, content_of, content_put, after_outs, after_puts, after_sync, SyncGoes}
@@ -21,7 +21,7 @@ use Rattle.plan_laws.proofs.Copies.{calls-here, calls-go, dirs-kept, appends-her
 use Rattle.plan_laws.proofs.Natural.{through, outs-through, puts-through, made-through, outs-go-through, puts-go-through}
 
 -- what holds at each call's path
-each-call : (P : Names → Type 0) (calls : List CopyCall) → ((path : Names) → (filter (is_at path) calls ≡ [] → ⊥) → P path) → Each (λ call. P (path_of_call call)) calls
+each-call : (P : Names → Type 0) (calls : List CopyCall) → ((path : Names) → (filter (is_at path) calls ≡ [] → ⊥) → P path) → AllByRecursion (λ call. P (path_of_call call)) calls
 each-call P [] all = tt
 each-call P (call ∷ calls) all =
     (all (path_of_call call) (λ e. full (sym (ap (λ b. cond b (call ∷ filter (is_at (path_of_call call)) calls) (filter (is_at (path_of_call call)) calls)) (same-here (path_of_call call))) ∙ e)),
@@ -122,7 +122,7 @@ module _ (from to : Tree (List ℕ)) (is : IsPair from to) (tmp : List ℕ) (num
         ap (λ (p : Names). is_dir_seen (seen p)) (parent_of-last above name) ∙ dir-there above d.0 d.1 d.2)
       at copied
 
-  all-above : Each (λ call. is_dir_seen (seen (parent_of (path_of_call call))) ≡ true) calls
+  all-above : AllByRecursion (λ call. is_dir_seen (seen (parent_of (path_of_call call))) ≡ true) calls
   all-above = each-call (λ path. is_dir_seen (seen (parent_of path)) ≡ true) calls (λ path there. by-copied path (above-copied path) (λ other. absurd (there (merging.elsewhere path other))))
 
   copies-go : CallsGo seen calls

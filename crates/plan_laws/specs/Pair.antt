@@ -39,9 +39,3 @@ pub record Alike {B : Type 0} (from : Tree B) (a b : Node B) : Type 0 where
   pub same_id : a.id.0 ≡ b.id.0
   pub same_kind : is_dir a ≡ is_dir b
   pub same_body : is_copied from ([], b) ≡ false → a.body ≡ b.body
-
--- an element of a list
-pub record IsIn {A : Type 0} (xs : List A) (x : A) : Type 0 where
-  pub before : List A
-  pub after : List A
-  pub is : xs ≡ before ++ x ∷ after

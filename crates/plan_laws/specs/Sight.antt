@@ -1,4 +1,5 @@
 -- What stands at each path of a tree, and how the moves of a plan change it.
+use Rattle.std.specs.List.{AllByRecursion}
 use Rattle.std.specs.Prelude.{◌≡◌, ◌⊎◌, ℕ, ◌+◌, Bool, true, false, ◌||◌, if◌then◌else◌, List, [], ◌∷◌, ◌++◌, Option, Some, None, is_some}
 use Rattle.hs_types.specs.Names.{Names}
 use Rattle.hs_plain.specs.Plan.{rest_below}
@@ -50,15 +51,10 @@ abbrev pub outs_done : {X : Type 0} → List ℕ → (ℕ → List ℕ) → Sigh
 outs_done tmp number sight i [] = sight
 outs_done tmp number sight i (path ∷ paths) = outs_done tmp number (moved_sight sight path (tmp ∷ number i ∷ [])) (i + 1) paths
 
--- each of these is such
-abbrev pub Each : {A : Type 0} → (A → Type 0) → List A → Type 0
-Each P [] = Unit {0}
-Each P (x ∷ xs) = P x × Each P xs
-
 -- each of these and each later one are such
 abbrev pub Pairwise : {A : Type 0} → (A → A → Type 0) → List A → Type 0
 Pairwise R [] = Unit {0}
-Pairwise R (x ∷ xs) = Each (R x) xs × Pairwise R xs
+Pairwise R (x ∷ xs) = AllByRecursion (R x) xs × Pairwise R xs
 
 -- no path is at or below an earlier one
 abbrev pub NoneBelow : List Names → Type 0
@@ -166,13 +162,13 @@ IsOther i (New node above name) = Unit {0}
 
 abbrev pub NumberOnce : {X : Type 0} → List (Placing X) → Type 0
 NumberOnce [] = Unit {0}
-NumberOnce (Back i above name ∷ puts) = Each (IsOther i) puts × NumberOnce puts
+NumberOnce (Back i above name ∷ puts) = AllByRecursion (IsOther i) puts × NumberOnce puts
 NumberOnce (New node above name ∷ puts) = NumberOnce puts
 
 -- what later puts cut off below an earlier one's target is what all puts do, and none comes above it
 abbrev pub IsLinked : {X : Type 0} → (Names → Bool) → List (Placing X) → Type 0
 IsLinked is_put [] = Unit {0}
-IsLinked is_put (put ∷ puts) = Each (λ later. rest_below later (target put) ≡ None) (targets puts)
+IsLinked is_put (put ∷ puts) = AllByRecursion (λ later. rest_below later (target put) ≡ None) (targets puts)
     × ((r : Names) → hits (targets puts) (target put ++ r) ≡ cuts (λ x. is_put (target put ++ x)) r) × IsLinked is_put puts
 
 -- outside of tmp stands what the other tree has, but for what is still to be put

@@ -1,13 +1,12 @@
 -- A list of a plan by rising paths, from its members in any order.
 use Rattle.std.specs.Prelude.{◌≡◌, Bool, true, false, ◌||◌, List, [], ◌∷◌, Option, Some, None}
-use Rattle.std.specs.List.{filter_map}
+use Rattle.std.specs.List.{filter_map, AllByRecursion}
 use Rattle.std.specs.Option.{option_map}
 use Rattle.std.specs.Ordering.{eq_by_cmp}
 use Rattle.std.specs.FinMap.Entries.{put}
 use Rattle.hs_types.specs.Names.{Names}
 use Rattle.hs_plain.specs.declared.state.Node.{Node}
 use Rattle.hs_plain.specs.Tree.{Tree, path_cmp, node_at}
-use Rattle.plan_laws.specs.Sight.{Each}
 
 abbrev pub put_entries : {V : Type 0} → List (Names × V) → List (Names × V) → List (Names × V)
 put_entries sorted [] = sorted
@@ -33,5 +32,5 @@ module _ {B V : Type 0} (f : Names × Node B → Option V) where
 
   -- all that a tree's places give, in any order
   pub record IsListing (tree : Tree B) (list : List (Names × V)) : Type 0 where
-    pub sound : Each (λ one. look tree one.0 ≡ Some one.1) list
+    pub sound : AllByRecursion (λ one. look tree one.0 ≡ Some one.1) list
     pub complete : (path : Names) (v : V) → look tree path ≡ Some v → has_path list path ≡ true

@@ -2,7 +2,7 @@
 #![tactic(auto)]
 
 ghost use Rattle.std.specs.Prelude.{◌≡◌, ◌+◌, ◌≤◌, ◌++◌, ◌∷◌, [], map, reverse, List, ℕ, Bool, true, length, Option, Some, None, is_some};
-ghost use Rattle.std.specs.List.{filter, filter_map, AllByRecursion};
+ghost use Rattle.std.specs.List.{filter, filter_map, AllByRecursion, Contains};
 ghost use Rattle.std.specs.FinMap.Entries.{is_sorted};
 ghost use Rattle.hs_types.specs.Names.{Names};
 ghost use Rattle.hs_types.specs.declared.journal.Entry.{Entry};
@@ -17,10 +17,10 @@ ghost use Rattle.hs_plain.specs.Report.{report, created, line_of};
 ghost use Rattle.hs_plain.specs.Plan.{outs, rest_below, translate, AreEqual};
 ghost use Rattle.hs_plain.specs.Files.{plain_files};
 ghost use Rattle.hs_plain.specs.Replay.{replay_from};
-ghost use Rattle.hs_plain.specs.Valid.{IsValid};
+ghost use Rattle.hs_plain.specs.Valid.{IsValid, HasSteadyStamps};
 ghost use Rattle.plan_laws.specs.Placings.{placings};
-ghost use Rattle.plan_laws.specs.Pair.{IsPair, IsIn, Alike, old_sight};
-ghost use Rattle.plan_laws.specs.Sight.{Sight, made_sight, hits, unless, outs_done, Each, NoneBelow, IsOutside, OutsGo, cuts, is_in, Both, Differ, Placing, targets, NumberOnce, IsLinked, Ready, Stands, HasDirs, puts_done, PutsGo};
+ghost use Rattle.plan_laws.specs.Pair.{IsPair, Alike, old_sight};
+ghost use Rattle.plan_laws.specs.Sight.{Sight, made_sight, hits, unless, outs_done, NoneBelow, IsOutside, OutsGo, cuts, is_in, Both, Differ, Placing, targets, NumberOnce, IsLinked, Ready, Stands, HasDirs, puts_done, PutsGo};
 ghost use Rattle.plan_laws.specs.Copies.{Contents, content_of, CopyCall, IsMerging, SyncGoes, after_sync};
 ghost use Rattle.plan_laws.specs.Steps.{plan_steps, step_call, StepLeads, HasFirst, AreOk};
 ghost use Rattle.plan_laws.specs.Target.{IsBegun, IsTarget};
@@ -37,20 +37,20 @@ pub fn outs_outside()
 /// In tmp under an out's number stands what stood at its path and below, but for what an earlier out had taken.
 pub fn outs_inside()
     ensures { (tmp : List ℕ) (number : ℕ → List ℕ) → ((i j : ℕ) → number i ≡ number j → i ≡ j) →
-        (before : List Names) (p : Names) (after : List Names) (s : Sight ℕ) (k : ℕ) (r : Names) → Each (IsOutside tmp) before → IsOutside tmp p → Each (IsOutside tmp) after →
+        (before : List Names) (p : Names) (after : List Names) (s : Sight ℕ) (k : ℕ) (r : Names) → AllByRecursion (IsOutside tmp) before → IsOutside tmp p → AllByRecursion (IsOutside tmp) after →
         outs_done tmp number s k (before ++ p ∷ after) (tmp ∷ number (k + length before) ∷ r) ≡ unless (hits before (p ++ r)) (s (p ++ r)) }
 {}
 
-/// Each out is accepted.
+/// AllByRecursion out is accepted.
 pub fn outs_go()
     ensures { (tmp : List ℕ) (number : ℕ → List ℕ) → ((i j : ℕ) → number i ≡ number j → i ≡ j) → (is_dir : ℕ → Bool) →
-        (paths : List Names) (s : Sight ℕ) (k : ℕ) → Each (IsOutside tmp) paths → NoneBelow paths → Each (λ path. is_some (s path) ≡ true) paths →
+        (paths : List Names) (s : Sight ℕ) (k : ℕ) → AllByRecursion (IsOutside tmp) paths → NoneBelow paths → AllByRecursion (λ path. is_some (s path) ≡ true) paths →
         ((node : ℕ) × (s (tmp ∷ []) ≡ Some node) × (is_dir node ≡ true)) → ((j : ℕ) → k ≤ j → s (tmp ∷ number j ∷ []) ≡ None) → OutsGo is_dir tmp number s k paths }
 {}
 
 /// What a list of paths takes below a path is what it cuts off there.
 pub fn hits_cuts()
-    ensures { (paths : List Names) (p r : Names) → Each (λ path. rest_below path p ≡ None) paths → hits paths (p ++ r) ≡ cuts (λ x. is_in paths (p ++ x)) r }
+    ensures { (paths : List Names) (p r : Names) → AllByRecursion (λ path. rest_below path p ≡ None) paths → hits paths (p ++ r) ≡ cuts (λ x. is_in paths (p ++ x)) r }
 {}
 
 /// Below two nodes that are alike, what no out has taken from the one tree is what no put brings to the other.
@@ -63,18 +63,18 @@ pub fn alike_below()
 pub fn puts_stand()
     ensures { (alike : ℕ → ℕ → Bool) (from to : Sight ℕ) (is_out is_put : Names → Bool) → Differ (λ a b. alike a b ≡ true) from to is_out is_put →
         (tmp : List ℕ) (number : ℕ → List ℕ) → ((i j : ℕ) → number i ≡ number j → i ≡ j) →
-        (puts : List (Placing ℕ)) (s : Sight ℕ) → Each (IsOutside tmp) (targets puts) → NumberOnce puts → IsLinked is_put puts →
-        Each (Ready (λ a b. alike a b ≡ true) from to is_out is_put tmp number s) puts → Stands (λ a b. alike a b ≡ true) to tmp s (targets puts) →
+        (puts : List (Placing ℕ)) (s : Sight ℕ) → AllByRecursion (IsOutside tmp) (targets puts) → NumberOnce puts → IsLinked is_put puts →
+        AllByRecursion (Ready (λ a b. alike a b ≡ true) from to is_out is_put tmp number s) puts → Stands (λ a b. alike a b ≡ true) to tmp s (targets puts) →
         Stands (λ a b. alike a b ≡ true) to tmp (puts_done tmp number s puts) [] }
 {}
 
-/// Each put is accepted.
+/// AllByRecursion put is accepted.
 pub fn puts_go()
     ensures { (alike : ℕ → ℕ → Bool) (from to : Sight ℕ) (is_out is_put : Names → Bool) → Differ (λ a b. alike a b ≡ true) from to is_out is_put →
         (tmp : List ℕ) (number : ℕ → List ℕ) → ((i j : ℕ) → number i ≡ number j → i ≡ j) →
         (is_dir : ℕ → Bool) → ((a b : ℕ) → alike a b ≡ true → is_dir a ≡ is_dir b) → HasDirs is_dir to →
-        (puts : List (Placing ℕ)) (s : Sight ℕ) → Each (IsOutside tmp) (targets puts) → NumberOnce puts → IsLinked is_put puts →
-        Each (Ready (λ a b. alike a b ≡ true) from to is_out is_put tmp number s) puts → Stands (λ a b. alike a b ≡ true) to tmp s (targets puts) →
+        (puts : List (Placing ℕ)) (s : Sight ℕ) → AllByRecursion (IsOutside tmp) (targets puts) → NumberOnce puts → IsLinked is_put puts →
+        AllByRecursion (Ready (λ a b. alike a b ≡ true) from to is_out is_put tmp number s) puts → Stands (λ a b. alike a b ≡ true) to tmp s (targets puts) →
         PutsGo is_dir tmp number s puts }
 {}
 
@@ -127,18 +127,20 @@ pub fn no_line_no_change()
     ensures { (from to : Tree (List ℕ)) → IsPair from to → report from to ≡ [] → (q : Names) → content_of (node_at from q) ≡ content_of (node_at to q) }
 {}
 
-/// Two snapshots of one directory, in a valid state, are two valid trees of one root, where equal stamps tell equal contents.
+/// Two snapshots of one directory, in a valid state in which stamps tell what nodes are, are two trees of one root, and so are a
+/// snapshot and the current state of its directory.
 pub fn members_are_pairs()
-    ensures { (state : State (List ℕ)) → IsValid state → (m n : Member (List ℕ)) → IsIn state.members m → IsIn state.members n → m.directory.0 ≡ n.directory.0 →
-        ((p q : Names) (a b : Node (List ℕ)) → node_at m.tree p ≡ Some a → node_at n.tree q ≡ Some b → a.id.0 ≡ b.id.0 → a.stamp ≡ b.stamp → a.body ≡ b.body) → IsPair m.tree n.tree }
+    ensures snapshots { (state : State (List ℕ)) → IsValid state → HasSteadyStamps state → (m n : Member (List ℕ)) → Contains state.members m → Contains state.members n → m.directory ≡ n.directory → IsPair m.tree n.tree }
+    ensures live { (state : State (List ℕ)) → IsValid state → HasSteadyStamps state → (m : Member (List ℕ)) → Contains state.members m → (path : Names) (node : Node (List ℕ)) → node_at state.tree path ≡ Some node → m.directory ≡ node.id →
+        IsPair m.tree (subtree state.tree path) }
 {}
 
 /// What lines and listings tell to be new is new, and all that is new is told, where each new directory is listed after it was found.
 pub fn news_by_lines()
-    ensures sound { (from to : Tree (List ℕ)) → IsPair from to → (listings : List Listing) → Each (IsListed from to) listings → Each (IsNew from to) (all_news (report from to) listings) }
-    ensures complete { (from to : Tree (List ℕ)) → IsPair from to → (listings : List Listing) → Each (IsListed from to) listings → InOrder (report from to) (first_news (report from to)) listings →
-        ((t : Names) (d : Node (List ℕ)) → node_at to t ≡ Some d → place_of from d.id ≡ None → is_dir d ≡ true → (one : Listing) × IsIn listings one × (d.id.0 ≡ one.dir.0)) →
-        (q : Names) (m : Node (List ℕ)) → node_at to q ≡ Some m → place_of from m.id ≡ None → IsIn (all_news (report from to) listings) (record { id = m.id; is_dir = is_dir m; path = q }) }
+    ensures sound { (from to : Tree (List ℕ)) → IsPair from to → (listings : List Listing) → AllByRecursion (IsListed from to) listings → AllByRecursion (IsNew from to) (all_news (report from to) listings) }
+    ensures complete { (from to : Tree (List ℕ)) → IsPair from to → (listings : List Listing) → AllByRecursion (IsListed from to) listings → InOrder (report from to) (first_news (report from to)) listings →
+        ((t : Names) (d : Node (List ℕ)) → node_at to t ≡ Some d → place_of from d.id ≡ None → is_dir d ≡ true → (one : Listing) × Contains listings one × (d.id.0 ≡ one.dir.0)) →
+        (q : Names) (m : Node (List ℕ)) → node_at to q ≡ Some m → place_of from m.id ≡ None → Contains (all_news (report from to) listings) (record { id = m.id; is_dir = is_dir m; path = q }) }
 {}
 
 /// What is put together in any order is the list by rising paths.

@@ -1,5 +1,5 @@
-use Rattle.plan_laws.proofs.Pairs.{members-pair}
+use Rattle.plan_laws.proofs.Pairs.{members-pair, live-pair}
 use Rattle.plan_laws.proofs.members_are_pairs.Goals as goal
 
 pub returns : goal.returns
-returns c = members-pair
+returns c = record { snapshots = members-pair; live = live-pair }
