@@ -15,6 +15,6 @@ mod plain;
 #[cfg(test)]
 mod scripts;
 #[cfg(test)]
-mod snapshot_manager;
+mod snapshots;
 #[cfg(test)]
 mod words;
