@@ -58,7 +58,7 @@ module _ {B : Type 0} where
         let here : shapes state.tree place.0 ≡ Some (shape place.1) = ap (option_map shape) (found_place state.tree valid.sorted place there) in
         let same : place.0 ≡ d.0 = (live_tree state valid).once place.0 d.0 (shape place.1) (place.1.id.0, true) here d.1 refl in
         true_false (above_test root place.0 name (path ++ drop (length (root ++ name ∷ path)) place.0) deeper)
-          (dirs.apart root place.0 id place.1.id at.1 other at.0 (ap (shapes state.tree) same ∙ d.1))))
+        (dirs.apart root place.0 id place.1.id at.1 other at.0 (ap (shapes state.tree) same ∙ d.1))))
 
     has-held : (other : InodeId) → has_snapshots state other ≡ true → In state.snapshottable other
     has-held other h =
@@ -87,20 +87,22 @@ module _ {B : Type 0} where
     still path out = by_one (place_of (without state.tree path) id)
         (λ place h. ap is_some h)
         (λ gone. let n : (n : Node B) × (node_at (without state.tree path) root ≡ Some n) × (shape n ≡ (id.0, true)) = shape_some (node_at (without state.tree path) root) (id.0, true) (left path out) in
-          absurd {A = is_some (place_of (without state.tree path) id) ≡ true} (no_place (without state.tree path) id gone (root, n.0) (in-tree (without state.tree path) root n.0 n.1) (ap (λ (s : Shape). s.0) n.2)))
+        absurd {A = is_some (place_of (without state.tree path) id) ≡ true} (no_place (without state.tree path) id gone (root, n.0) (in-tree (without state.tree path) root n.0 n.1) (ap (λ (s : Shape). s.0) n.2)))
 
     kept-removed : (path : Names) → IsOutside path root → IsRootAt (removed state path) root id
-    kept-removed path out =
-        ((λ i. shapes-stamped (without state.tree path) (parent_of path) (state.tick + 1) i root) ∙ left path out,
-         in-filter (λ other. is_some (place_of (without state.tree path) other)) state.snapshottable id at.1 (still path out))
+    kept-removed path out = (
+      (λ i. shapes-stamped (without state.tree path) (parent_of path) (state.tick + 1) i root) ∙ left path out,
+      in-filter (λ other. is_some (place_of (without state.tree path) other)) state.snapshottable id at.1 (still path out),
+    )
 
     kept-renamed : (old new : Names) → MayMove state.tree old new → IsOutside old root → IsOutside new root → IsRootAt (renamed state (old, new)) root id
-    kept-renamed old new may out_old out_new =
-        ((λ i. shapes-stamped (stamped (moved state.tree old new) (parent_of old) (state.tick + 1)) (parent_of new) (state.tick + 1) i root)
-         ∙ (λ i. shapes-stamped (moved state.tree old new) (parent_of old) (state.tick + 1) i root)
-         ∙ ap (option_map shape) (moved-elsewhere state.tree old new valid.sorted (free_below state.tree state.next_inode new (live_tree state valid) may.free) root out_new)
-         ∙ left old out_old,
-         at.1)
+    kept-renamed old new may out_old out_new = (
+      (λ i. shapes-stamped (stamped (moved state.tree old new) (parent_of old) (state.tick + 1)) (parent_of new) (state.tick + 1) i root)
+          ∙ (λ i. shapes-stamped (moved state.tree old new) (parent_of old) (state.tick + 1) i root)
+          ∙ ap (option_map shape) (moved-elsewhere state.tree old new valid.sorted (free_below state.tree state.next_inode new (live_tree state valid) may.free) root out_new)
+          ∙ left old out_old,
+      at.1,
+    )
 
     kept-allowed : (other : InodeId) → IsRootAt (allowed state other) root id
     kept-allowed other = elim (is_snapshottable state other) as (λ b. IsRootAt (cond {A = State B} b state (record state { snapshottable = state.snapshottable ++ other ∷ [] })) root id) [

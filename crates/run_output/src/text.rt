@@ -266,11 +266,7 @@ fn write_line(out: &mut String, line: &Line) -> Result<(), NoMemory>
 }
 
 /// Where a renamed item stands.
-fn write_target(
-    out: &mut String,
-    kind: LineKind,
-    to: &Option<RelPath>,
-) -> Result<(), NoMemory>
+fn write_target(out: &mut String, kind: LineKind, to: &Option<RelPath>) -> Result<(), NoMemory>
     ensures { OnOk result (string_bytes out.new ≡ string_bytes out.old ++ target_text kind to.now) }
 {
     match (kind, to) {
