@@ -13,4 +13,6 @@ mod scripts;
 #[cfg(test)]
 mod snapshot_manager;
 #[cfg(test)]
+mod turns;
+#[cfg(test)]
 mod words;
