@@ -17,4 +17,6 @@ mod scripts;
 #[cfg(test)]
 mod snapshots;
 #[cfg(test)]
+mod turns;
+#[cfg(test)]
 mod words;

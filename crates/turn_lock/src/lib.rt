@@ -16,6 +16,3 @@ mod view;
 pub use historied::{Historied, Kept, Work};
 pub use lock::{LookNoMemory, TurnLock};
 pub use seat::TurnSeat;
-
-#[cfg(test)]
-mod tests;
