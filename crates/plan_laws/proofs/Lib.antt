@@ -25,3 +25,6 @@ pub mod Apart
 pub mod Steps
 pub mod Equal
 pub mod Journal
+pub mod Numbers
+pub mod Merged
+pub mod Planned
