@@ -28,3 +28,5 @@ pub mod Journal
 pub mod Numbers
 pub mod Merged
 pub mod Planned
+pub mod PlanJournal
+pub mod Temporary
