@@ -25,3 +25,8 @@ pub mod Apart
 pub mod Steps
 pub mod Equal
 pub mod Journal
+pub mod Numbers
+pub mod Merged
+pub mod Planned
+pub mod PlanJournal
+pub mod Temporary

@@ -108,7 +108,7 @@ module _ {B : Type 0} where
       (λ qe me. subst (λ (x : Names × Node B). IsIn (e ∷ es) x) (sym (λ i. (qe i, me i))) (in-head e es))
       (λ bt. in-right (e ∷ []) es (q, m) (in-places es q m bt))
 
-  listed-child : (tree : Tree B) (t : Names) (n : List ℕ) (m : Node B) → node_at tree (t ++ n ∷ []) ≡ Some m → IsIn (listing tree t) (item_of m n)
+  pub listed-child : (tree : Tree B) (t : Names) (n : List ℕ) (m : Node B) → node_at tree (t ++ n ∷ []) ≡ Some m → IsIn (listing tree t) (item_of m n)
   listed-child tree t n m at = in-filter_map (child_item t) tree (t ++ n ∷ [], m) (item_of m n) (in-places tree (t ++ n ∷ []) m at) (ap (named_item m) (below-last t n))
 
   each-listed : (P : Item → Type 0) (tree : Tree B) (t : Names) → is_sorted path_cmp tree ≡ true → ((n : List ℕ) (m : Node B) → node_at tree (t ++ n ∷ []) ≡ Some m → P (item_of m n)) → AllByRecursion P (listing tree t)

@@ -43,7 +43,7 @@ module _ {B : Type 0} where
         | false ↦ λ t. rest
       ]) refl
 
-  rises-filter : (test : Names × Node B → Bool) (tree : Tree B) → is_sorted path_cmp tree ≡ true → Rises (map path_of_place (filter test tree))
+  pub rises-filter : (test : Names × Node B → Bool) (tree : Tree B) → is_sorted path_cmp tree ≡ true → Rises (map path_of_place (filter test tree))
   rises-filter test [] h = tt
   rises-filter test (e ∷ es) h =
       let rest : Rises (map path_of_place (filter test es)) = rises-filter test es (second (below_all path_cmp e.0 es) _ h) in
@@ -202,7 +202,7 @@ module _ {B : Type 0} (from to : Tree B) (is : IsPair from to) (tmp : List ℕ) 
   IsReady put = Ready (Alike from) (node_at from) (old_sight from to) (is_in (outs from to)) (is_in (targets (placings from to))) tmp number outs_over put
 
   -- an out is there for each node that comes back
-  went-out : (q : Names) (m : Node B) (old : Names × Node B) → node_at to q ≡ Some m → place_of from m.id ≡ Some old → same_place from to old.0 q ≡ false → is_in (outs from to) old.0 ≡ true
+  pub went-out : (q : Names) (m : Node B) (old : Names × Node B) → node_at to q ≡ Some m → place_of from m.id ≡ Some old → same_place from to old.0 q ≡ false → is_in (outs from to) old.0 ≡ true
   went-out q m old at h moves =
       let so : (node_at from old.0 ≡ Some old.1) × (old.1.id.0 ≡ m.id.0) = place_of-so from m.id old is.from_tree.sorted h in
       out-so from to is old.0 old.1 so.0 (ap (goes_by from to old.0) (place_of-here to is.to_tree q m old.1.id at so.1) ∙ ap not moves)

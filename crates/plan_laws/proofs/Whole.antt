@@ -21,7 +21,7 @@ use Rattle.plan_laws.proofs.Copies.{calls-here, calls-go, dirs-kept, appends-her
 use Rattle.plan_laws.proofs.Natural.{through, outs-through, puts-through, made-through, outs-go-through, puts-go-through}
 
 -- what holds at each call's path
-each-call : (P : Names → Type 0) (calls : List CopyCall) → ((path : Names) → (filter (is_at path) calls ≡ [] → ⊥) → P path) → AllByRecursion (λ call. P (path_of_call call)) calls
+pub each-call : (P : Names → Type 0) (calls : List CopyCall) → ((path : Names) → (filter (is_at path) calls ≡ [] → ⊥) → P path) → AllByRecursion (λ call. P (path_of_call call)) calls
 each-call P [] all = tt
 each-call P (call ∷ calls) all = (
   all (path_of_call call) (λ e. full (sym (ap (λ b. cond b (call ∷ filter (is_at (path_of_call call)) calls) (filter (is_at (path_of_call call)) calls)) (same-here (path_of_call call))) ∙ e)),

@@ -9,3 +9,5 @@ pub mod Listed
 pub mod Bridge
 pub mod Steps
 pub mod Target
+pub mod Numbers
+pub mod PlanPaths

@@ -1,10 +1,11 @@
 //! Laws of a sync's plan: functions without a body, each for its contract.
 #![tactic(auto)]
 
-ghost use Rattle.std.specs.Prelude.{◌≡◌, ◌+◌, ◌≤◌, ◌++◌, ◌∷◌, [], map, reverse, List, ℕ, Bool, true, length, Option, Some, None, is_some};
+ghost use Rattle.std.specs.Prelude.{◌≡◌, ◌+◌, ◌≤◌, ◌<◌, ◌^◌, ◌++◌, ◌∷◌, [], map, reverse, List, ℕ, Bool, true, length, Option, Some, None, is_some};
 ghost use Rattle.std.specs.List.{filter, filter_map, AllByRecursion, Contains};
 ghost use Rattle.std.specs.FinMap.Entries.{is_sorted};
 ghost use Rattle.hs_types.specs.Names.{Names};
+ghost use Rattle.hs_types.specs.declared.call.Call.{Call};
 ghost use Rattle.hs_types.specs.declared.journal.Entry.{Entry};
 ghost use Rattle.hs_types.specs.declared.reply.LineKind.TheVariants.{Created};
 ghost use Rattle.hs_plain.specs.declared.plan.Listing.{Listing};
@@ -14,7 +15,7 @@ ghost use Rattle.hs_plain.specs.declared.state.Member.{Member};
 ghost use Rattle.hs_plain.specs.declared.state.State.{State};
 ghost use Rattle.hs_plain.specs.Tree.{Tree, path_cmp, node_at, place_of, is_dir, subtree};
 ghost use Rattle.hs_plain.specs.Report.{report, created, line_of};
-ghost use Rattle.hs_plain.specs.Plan.{outs, rest_below, translate, AreEqual};
+ghost use Rattle.hs_plain.specs.Plan.{outs, rest_below, translate, root_names, plan_of, ArePlanCalls, AreEqual};
 ghost use Rattle.hs_plain.specs.Files.{plain_files};
 ghost use Rattle.hs_plain.specs.Replay.{replay_from};
 ghost use Rattle.hs_plain.specs.Valid.{IsValid, HasSteadyStamps};
@@ -24,6 +25,7 @@ ghost use Rattle.plan_laws.specs.Sight.{Sight, made_sight, hits, unless, outs_do
 ghost use Rattle.plan_laws.specs.Copies.{Contents, content_of, CopyCall, IsMerging, SyncGoes, after_sync};
 ghost use Rattle.plan_laws.specs.Steps.{plan_steps, step_call, StepLeads, HasFirst, AreOk};
 ghost use Rattle.plan_laws.specs.Target.{IsBegun, IsTarget};
+ghost use Rattle.plan_laws.specs.PlanPaths.{PathsLead};
 ghost use Rattle.plan_laws.specs.Lanes.{calls_taken};
 ghost use Rattle.plan_laws.specs.Translated.{is_out_line, line_path, renames_id};
 ghost use Rattle.plan_laws.specs.Listed.{IsListed, IsNew, all_news, first_news, InOrder};
@@ -159,4 +161,21 @@ pub fn sync_in_journal()
     ensures equal { (from to : Tree (List ℕ)) (tmp : List ℕ) (number : ℕ → List ℕ) → IsBegun from to tmp number → (pages : Names → List (List ℕ)) (copies : List CopyCall) → IsMerging from to pages copies →
         (state : State (List ℕ)) (root_text : List ℕ) (root : Names) → IsTarget state root_text root from → (text : Names → List ℕ) → AllByRecursion (StepLeads text root) (plan_steps tmp number from to copies) →
         (is_own : Entry → Bool) (entries : List Entry) → (first : HasFirst is_own root_text entries (map (step_call text) (plan_steps tmp number from to copies))) → first.rest ≡ [] → AreEqual to (subtree (replay_from plain_files state entries).tree root) }
+{}
+
+/// The same of the calls of a plan, in any of the ways in which its copies may be merged, where their texts stand for the plan's
+/// paths.
+pub fn plan_in_journal()
+    ensures ok { (from to : Tree (List ℕ)) → IsPair from to → (names : Names) → node_at from ((plan_of from to names).tmp ∷ []) ≡ None → node_at to ((plan_of from to names).tmp ∷ []) ≡ None → length (outs from to) ≤ 2 ^ 64 →
+        (made : List Call) (root_text : List ℕ) → ArePlanCalls root_text (plan_of from to names) to made → (root : Names) → PathsLead root_text root (plan_of from to names) → (state : State (List ℕ)) → IsTarget state root_text root from →
+        (is_own : Entry → Bool) (entries : List Entry) → HasFirst is_own root_text entries made → AreOk is_own state entries }
+    ensures equal { (from to : Tree (List ℕ)) → IsPair from to → (names : Names) → node_at from ((plan_of from to names).tmp ∷ []) ≡ None → node_at to ((plan_of from to names).tmp ∷ []) ≡ None → length (outs from to) ≤ 2 ^ 64 →
+        (made : List Call) (root_text : List ℕ) → ArePlanCalls root_text (plan_of from to names) to made → (root : Names) → PathsLead root_text root (plan_of from to names) → (state : State (List ℕ)) → IsTarget state root_text root from →
+        (is_own : Entry → Bool) (entries : List Entry) → (first : HasFirst is_own root_text entries made) → first.rest ≡ [] → AreEqual to (subtree (replay_from plain_files state entries).tree root) }
+{}
+
+/// The temporary directory of a plan is a child of neither root.
+pub fn tmp_is_free()
+    ensures from { (from to base : Tree (List ℕ)) → AreEqual from base → length (root_names base ++ root_names to) < 2 ^ 64 → node_at from ((plan_of from to (root_names base)).tmp ∷ []) ≡ None }
+    ensures to { (from to base : Tree (List ℕ)) → AreEqual from base → length (root_names base ++ root_names to) < 2 ^ 64 → node_at to ((plan_of from to (root_names base)).tmp ∷ []) ≡ None }
 {}
