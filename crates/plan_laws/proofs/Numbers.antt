@@ -27,11 +27,11 @@ module _ (bound : ℕ) (once : (m n : ℕ) → m < bound → n < bound → decim
   below-once : (m n : ℕ) → number_below bound m ≡ number_below bound n → m ≡ n
   below-once m n e = by (nat_lt m bound)
       (λ t. by (nat_lt n bound)
-        (λ u. once m n (ltb-true m bound t) (ltb-true n bound u) (sym (low m t) ∙ e ∙ low n u))
-        (λ u. clash m n (ltb-true m bound t) (ltb-false n bound u) (sym (low m t) ∙ e ∙ high n u)))
+      (λ u. once m n (ltb-true m bound t) (ltb-true n bound u) (sym (low m t) ∙ e ∙ low n u))
+      (λ u. clash m n (ltb-true m bound t) (ltb-false n bound u) (sym (low m t) ∙ e ∙ high n u)))
       (λ t. by (nat_lt n bound)
-        (λ u. sym (clash n m (ltb-true n bound u) (ltb-false m bound t) (sym (low n u) ∙ sym e ∙ high m t)))
-        (λ u. equal m n (sym (high m t) ∙ e ∙ high n u)))
+      (λ u. sym (clash n m (ltb-true n bound u) (ltb-false m bound t) (sym (low n u) ∙ sym e ∙ high m t)))
+      (λ u. equal m n (sym (high m t) ∙ e ∙ high n u)))
 
 pub number-once : (m n : ℕ) → number m ≡ number n → m ≡ n
 number-once = below-once (2 ^ 64) decimal_injective length-decimal-le_succ

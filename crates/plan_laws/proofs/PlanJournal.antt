@@ -71,6 +71,7 @@ module _ (from to : Tree (List ℕ)) (is : IsPair from to) (names : Names) (from
       where
         lower : (n m : ℕ) → k + suc n ≤ m → k < m
         lower n m within = omega arith
+
         later : (n m : ℕ) → k + suc n ≤ m → k + 1 + n ≤ m
         later n m within = omega arith
 
@@ -88,12 +89,13 @@ module _ (from to : Tree (List ℕ)) (is : IsPair from to) (names : Names) (from
     copies-lead = each-call (LeadsBelow root_text root) by_path.made (λ path there. in-copies from to is root_text plan refl by_path.merging (LeadsBelow root_text root) lead.copies path there)
 
     steps-lead : AllByRecursion StepLeadsBelow (plan_steps plan.tmp number from to by_path.made)
-    steps-lead =
-        (lead.tmp,
-         each-append StepLeadsBelow (out_steps plan.tmp number 0 (outs from to)) (map (put_step plan.tmp number) (placings from to) ++ (map Fill by_path.made ++ Drop plan.tmp ∷ [])) (outs-lead (outs from to) 0 (from-none (length (outs from to))) lead.outs)
-         (each-append StepLeadsBelow (map (put_step plan.tmp number) (placings from to)) (map Fill by_path.made ++ Drop plan.tmp ∷ [])
-           (puts-lead (placings from to) low (subst (AllByRecursion (λ put. LeadsBelow root_text root (path_of_put put))) (sym (placings-puts from to)) lead.puts))
-           (each-append StepLeadsBelow (map Fill by_path.made) (Drop plan.tmp ∷ []) (fills-lead by_path.made copies-lead) (lead.tmp, tt))))
+    steps-lead = (
+      lead.tmp,
+      each-append StepLeadsBelow (out_steps plan.tmp number 0 (outs from to)) (map (put_step plan.tmp number) (placings from to) ++ (map Fill by_path.made ++ Drop plan.tmp ∷ [])) (outs-lead (outs from to) 0 (from-none (length (outs from to))) lead.outs)
+          (each-append StepLeadsBelow (map (put_step plan.tmp number) (placings from to)) (map Fill by_path.made ++ Drop plan.tmp ∷ [])
+          (puts-lead (placings from to) low (subst (AllByRecursion (λ put. LeadsBelow root_text root (path_of_put put))) (sym (placings-puts from to)) lead.puts))
+          (each-append StepLeadsBelow (map Fill by_path.made) (Drop plan.tmp ∷ []) (fills-lead by_path.made copies-lead) (lead.tmp, tt))),
+    )
       where
         from-none : (n : ℕ) → 0 + n ≤ n
         from-none n = omega arith
