@@ -1,5 +1,5 @@
 -- A call whose paths are neither the root nor above or below it changes nothing there.
-use Rattle.std.proofs.Common.{◌≡◌, ℕ, ◌+◌, Bool, true, false, cond, is_some, Some, None, Ok, Err, List, [], ◌∷◌, ◌++◌, refl, ap, sym, ◌∙◌, append-nil, append_assoc}
+use Rattle.std.proofs.Common.{◌≡◌, ℕ, ◌+◌, Bool, true, false, cond, is_some, Some, None, Ok, Err, List, [], ◌∷◌, ◌++◌, refl, ap, sym, ◌∙◌, append-nil}
 use Rattle.std.specs.Prelude.{not, ◌≢◌}
 use Rattle.std.specs.List.{list_any}
 use Rattle.std.specs.Ordering.{eq_by_cmp}
@@ -12,17 +12,16 @@ use Rattle.hs_types.specs.declared.call.Call.{Call}
 use Rattle.hs_types.specs.declared.call.Call.TheVariants as calls
 use Rattle.hs_plain.specs.declared.state.Node.{Node}
 use Rattle.hs_plain.specs.declared.state.State.{State}
-use Rattle.hs_plain.specs.Asked.{Asked, ◌>>=◌, both, refuse_if}
+use Rattle.hs_plain.specs.Asked.{Asked, both, refuse_if}
 use Rattle.hs_plain.specs.Files.{plain_files}
 use Rattle.hs_plain.specs.Tree.{Tree, path_cmp, node_at, parent_of, is_dir, is_root_path, same_path, walk, walks_above}
 use Rattle.hs_plain.specs.State.{new_dir, is_snapshottable, has_snapshots, holds_snapshots}
-use Rattle.hs_plain.specs.Places.{IsOutside}
 use Rattle.hs_plain.specs.Span.{paths_in, is_near}
 use Rattle.hs_plain.specs.Modifying.{live_path, mkdir_at, create_at, takes_place_of, append_at, file_in, delete_at, spares_children, rename_at, set_mode_at, may_move}
 use Rattle.hs_plain.specs.Snapshotting.{directory_at, allow_at, disallow_at, snap_at, snap_del_at, snap_ren_at}
 use Rattle.hs_plain.specs.Change.{stamped, without, moved, new_file, with_node, made_dir, made_file, refilled, appended, removed, renamed, with_mode, if_asked, change, moded, remode, allowed, disallowed, snapped, unsnapped, resnapped}
 use Rattle.hs_plain.specs.Plan.{rest_below}
-use Rattle.hs_plain.proofs.ValidShapes.{none_some, other-test, true_false}
+use Rattle.hs_plain.proofs.ValidShapes.{none_some, other-test}
 use Rattle.hs_plain.proofs.ValidChanges.{apart_test, node_at-put, node_at-without}
 use Rattle.hs_plain.proofs.ValidAsked.{MayMove, rename_allowed, same_ok, ok_then, dir_there}
 use Rattle.hs_plain.proofs.ValidLists.{neither_first, neither_second}
@@ -32,15 +31,15 @@ use Rattle.plan_laws.specs.Sight.{inside_or}
 use Rattle.plan_laws.specs.Pair.{IsTree}
 use Rattle.plan_laws.specs.Copies.{content_of}
 use Rattle.plan_laws.specs.Bridge.{held}
-use Rattle.plan_laws.proofs.Paths.{by, by_one, rest-here, rest-so}
+use Rattle.plan_laws.proofs.Paths.{by_one, rest-here, rest-so}
 use Rattle.plan_laws.proofs.Bridge.{not-under, node_at-moved, content-stamped}
 use Rattle.plan_laws.proofs.Near.{IsApart, near-apart}
 
 apart-none : (path root q : Names) → IsApart path root → rest_below path (root ++ q) ≡ None
 apart-none path root q apart = by_one (rest_below path (root ++ q))
     (λ r below. absurd (fork path root r q (sym (rest-so path (root ++ q) r below))
-      (λ rest e. apart.not_above rest e)
-      (λ name rest e. apart.not_below (name ∷ rest) e)))
+    (λ rest e. apart.not_above rest e)
+    (λ name rest e. apart.not_below (name ∷ rest) e)))
     (λ none. none)
 
 apart-other : (path root q : Names) → IsApart path root → root ++ q ≢ path
@@ -64,7 +63,7 @@ module _ (state : State (List ℕ)) (is : IsTree state.tree) (root : Names) (id 
   node-apart : (path q : Names) (node : Node (List ℕ)) → IsApart path root → held (with_node state path node) root q ≡ held state root q
   node-apart path q node apart =
       ap content_of (node_at-put path node (stamped state.tree (parent_of path) (state.tick + 1)) (root ++ q)
-        ∙ ap (λ b. cond b (Some node) (node_at (stamped state.tree (parent_of path) (state.tick + 1)) (root ++ q))) (other-test (root ++ q) path (apart-other path root q apart)))
+      ∙ ap (λ b. cond b (Some node) (node_at (stamped state.tree (parent_of path) (state.tick + 1)) (root ++ q))) (other-test (root ++ q) path (apart-other path root q apart)))
       ∙ content-stamped state.tree (parent_of path) (state.tick + 1) (root ++ q)
 
   content-moded : (tree : Tree (List ℕ)) (path : Names) (mode tick : ℕ) (q : Names) → content_of (node_at (moded tree path mode tick) q) ≡ content_of (node_at tree q)
@@ -78,6 +77,7 @@ module _ (state : State (List ℕ)) (is : IsTree state.tree) (root : Names) (id 
     where
       kept : (remode path mode tick e).0 ≡ e.0
       kept = elim (same_path path e.0) as (λ b. (cond b (e.0, record e.1 { mode = mode; stamp = tick }) e).0 ≡ e.0) [ true ↦ refl | false ↦ refl ]
+
       alike : (remode path mode tick e).1.body ≡ e.1.body
       alike = elim (same_path path e.0) as (λ b. (cond b (e.0, record e.1 { mode = mode; stamp = tick }) e).1.body ≡ e.1.body) [ true ↦ refl | false ↦ refl ]
 
@@ -86,18 +86,18 @@ module _ (state : State (List ℕ)) (is : IsTree state.tree) (root : Names) (id 
   untouched (calls.Create text over) apart q = if-apart (made_file plain_files state) (create_at state text over) q (λ p e. node-apart p q (new_file plain_files state.next_inode (state.tick + 1)) (apart p e))
   untouched (calls.Append text bytes) apart q = if-apart (appended plain_files state bytes) (append_at state text) q (λ at e.
       ap content_of (node_at-put at.0 (refilled at.1 (at.2 ++ bytes) (state.tick + 1)) state.tree (root ++ q)
-        ∙ ap (λ b. cond b (Some (refilled at.1 (at.2 ++ bytes) (state.tick + 1))) (node_at state.tree (root ++ q))) (other-test (root ++ q) at.0 (apart-other at.0 root q (apart at e)))))
+      ∙ ap (λ b. cond b (Some (refilled at.1 (at.2 ++ bytes) (state.tick + 1))) (node_at state.tree (root ++ q))) (other-test (root ++ q) at.0 (apart-other at.0 root q (apart at e)))))
   untouched (calls.Delete text recursive) apart q = if-apart (removed state) (delete_at state text recursive) q (λ p e.
       content-stamped (without state.tree p) (parent_of p) (state.tick + 1) (root ++ q)
       ∙ ap content_of (node_at-without state.tree p (root ++ q)
-        ∙ ap (λ b. cond (not b) (node_at state.tree (root ++ q)) None) (apart_test (root ++ q) p (not-under p (root ++ q) (apart-none p root q (apart p e))))))
+      ∙ ap (λ b. cond (not b) (node_at state.tree (root ++ q)) None) (apart_test (root ++ q) p (not-under p (root ++ q) (apart-none p root q (apart p e))))))
   untouched (calls.Rename old new) apart q = if-apart (renamed state) (rename_at state old new) q (λ p e.
       let moves : MayMove state.tree p.0 p.1 = (rename_allowed state old new p e).moves in
       content-stamped (stamped (moved state.tree p.0 p.1) (parent_of p.0) (state.tick + 1)) (parent_of p.1) (state.tick + 1) (root ++ q)
       ∙ content-stamped (moved state.tree p.0 p.1) (parent_of p.0) (state.tick + 1) (root ++ q)
       ∙ ap content_of (node_at-moved state.tree is p.0 p.1 moves.free (root ++ q)
-        ∙ ap (λ o. inside_or o (λ rest. node_at state.tree (p.0 ++ rest)) (inside_or (rest_below p.0 (root ++ q)) (λ rest. None) (node_at state.tree (root ++ q)))) (apart-none p.1 root q (apart p e).1)
-        ∙ ap (λ o. inside_or o (λ rest. None) (node_at state.tree (root ++ q))) (apart-none p.0 root q (apart p e).0)))
+      ∙ ap (λ o. inside_or o (λ rest. node_at state.tree (p.0 ++ rest)) (inside_or (rest_below p.0 (root ++ q)) (λ rest. None) (node_at state.tree (root ++ q)))) (apart-none p.1 root q (apart p e).1)
+      ∙ ap (λ o. inside_or o (λ rest. None) (node_at state.tree (root ++ q))) (apart-none p.0 root q (apart p e).0)))
   untouched (calls.SetMode text mode) apart q = if-apart (with_mode state mode) (set_mode_at state text) q (λ p e. content-moded state.tree p mode (state.tick + 1) (root ++ q))
   untouched (calls.Allow text) apart q = if-apart (allowed state) (allow_at state text) q (λ other _. allow-same other)
     where
@@ -163,6 +163,7 @@ module _ (state : State (List ℕ)) (is : IsTree state.tree) (root : Names) (id 
       where
         err_ok : {X : Type 0} {why : Refusal} {x : X} → Err why ≡ Ok x → ⊥
         err_ok h = cc
+
         both-ok : (a b : Asked Names) (z : Names × Names) → both a b ≡ Ok z → (a ≡ Ok z.0) × (b ≡ Ok z.1)
         both-ok (Ok x) (Ok y) z h = (ap (λ (p : Names × Names). Ok p.0) (same_ok h), ap (λ (p : Names × Names). Ok p.1) (same_ok h))
         both-ok (Ok x) (Err why) z h = absurd (err_ok h)

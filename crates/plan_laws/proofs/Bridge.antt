@@ -1,10 +1,8 @@
 -- The plain machine's calls below a root, as changes of what stands at each path there.
-use Rattle.std.proofs.Common.{◌≡◌, ℕ, ◌+◌, Bool, true, false, bytes_eq, cond, Option, Some, None, Ok, Err, is_some, List, [], ◌∷◌, ◌++◌, length, refl, ap, sym, ◌∙◌, append-nil, append_assoc}
+use Rattle.std.proofs.Common.{◌≡◌, ℕ, ◌+◌, Bool, true, false, cond, Option, Some, None, Ok, Err, is_some, List, [], ◌∷◌, ◌++◌, length, refl, ap, sym, ◌∙◌, append-nil, append_assoc}
 use Rattle.std.specs.Prelude.{not, ◌≢◌, ◌&&◌, nat_lt}
-use Rattle.std.specs.List.{starts_with}
 use Rattle.std.specs.Option.{option_map}
 use Rattle.std.specs.Ordering.{eq_by_cmp}
-use Rattle.std.specs.FinMap.Entries.{find-where_key}
 use Rattle.std.proofs.lemmas.List.{append_cancel_left}
 use Rattle.hs_types.specs.Names.{Names}
 use Rattle.hs_types.specs.declared.refusal.Refusal.TheVariants.{NotDir, Exists, IsRoot, IntoItself, NotFile, NotEmpty, HasSnapshots, Nested}
@@ -16,11 +14,10 @@ use Rattle.hs_plain.specs.Files.{plain_files}
 use Rattle.hs_plain.specs.Tree.{Tree, path_cmp, node_at, passes, walks_from, walks_above, walk, found, is_dir, is_dir_body, parent_of, is_root_path, is_above, same_path}
 use Rattle.hs_plain.specs.State.{new_dir, holds_snapshots, holds_snapshottable, is_in_snapshottable}
 use Rattle.hs_plain.specs.Modifying.{live_path, mkdir_at, create_at, takes_place_of, append_at, file_in, delete_at, spares_children, rename_at, may_move, would_nest}
-use Rattle.hs_plain.specs.Change.{restamp, stamped, without, repath, moved, new_file, made_dir, made_file, with_node, removed, renamed, appended, refilled, if_asked, change}
+use Rattle.hs_plain.specs.Change.{restamp, stamped, without, moved, new_file, made_dir, made_file, with_node, removed, renamed, appended, refilled, if_asked, change}
 use Rattle.hs_plain.proofs.ValidShapes.{none_some, same_some, true_false, by_last, parent_of-last, same-itself, other-test, under_test}
 use Rattle.hs_plain.proofs.Trees.{moved-below, moved-elsewhere, without-below, without-elsewhere}
 use Rattle.hs_plain.proofs.ValidChanges.{apart_test, node_at-put, node_at-without}
-use Rattle.hs_plain.proofs.ValidTrees.{paths_exact}
 use Rattle.hs_plain.specs.Plan.{rest_below}
 use Rattle.plan_laws.specs.Sight.{Sight, inside_or, moved_sight, at_top, made_sight, Goes, Makes}
 use Rattle.plan_laws.specs.Pair.{IsTree}
@@ -73,7 +70,7 @@ module _ {B : Type 0} (tree : Tree B) (is : IsTree tree) where
   walk-ok path n at = by_last (λ path. node_at tree path ≡ Some n → walk tree path ≡ Ok n) path
       (λ at. ap found at)
       (λ above name at. let d : (dir : Node B) × (node_at tree above ≡ Some dir) × (is_dir dir ≡ true) = dir-above tree is above name n at in
-        ap (λ (w : Asked (Unit {0})). w >>= λ _. found (node_at tree (above ++ name ∷ []))) (walks-ok above [] name d.0 d.1 d.2) ∙ ap found at)
+      ap (λ (w : Asked (Unit {0})). w >>= λ _. found (node_at tree (above ++ name ∷ []))) (walks-ok above [] name d.0 d.1 d.2) ∙ ap found at)
       at
 
   -- ---- a move
@@ -83,12 +80,13 @@ module _ {B : Type 0} (tree : Tree B) (is : IsTree tree) where
     pub node_at-moved : (q : Names) → node_at (moved tree old new) q ≡ moved_sight (node_at tree) old new q
     node_at-moved q = by_one (rest_below new q)
         (λ r below. ap (node_at (moved tree old new)) (rest-so new q r below) ∙ moved-below tree old new is.sorted all_free r
-          ∙ sym (ap (λ o. inside_or o (λ rest. node_at tree (old ++ rest)) (inside_or (rest_below old q) (λ rest. None) (node_at tree q))) below))
+        ∙ sym (ap (λ o. inside_or o (λ rest. node_at tree (old ++ rest)) (inside_or (rest_below old q) (λ rest. None) (node_at tree q))) below))
         (λ out. moved-elsewhere tree old new is.sorted all_free q (not-under new q out) ∙ left q
-          ∙ sym (ap (λ o. inside_or o (λ rest. node_at tree (old ++ rest)) (inside_or (rest_below old q) (λ rest. None) (node_at tree q))) out))
+        ∙ sym (ap (λ o. inside_or o (λ rest. node_at tree (old ++ rest)) (inside_or (rest_below old q) (λ rest. None) (node_at tree q))) out))
       where
         all_free : (rest : Names) → node_at tree (new ++ rest) ≡ None
         all_free rest = none-all rest new free
+
         left : (q : Names) → node_at (without tree old) q ≡ inside_or (rest_below old q) (λ rest. None) (node_at tree q)
         left q = by_one (rest_below old q)
             (λ r below. ap (node_at (without tree old)) (rest-so old q r below) ∙ without-below tree old r ∙ sym (ap (λ o. inside_or o (λ rest. None) (node_at tree q)) below))
@@ -109,12 +107,16 @@ may-move state is old above name n d at below d_at dir free apart bare plain =
   where
     nests : Asked (Unit {0})
     nests = refuse_if (would_nest state old (above ++ name ∷ [])) Nested
+
     apart_from : Asked (Unit {0})
     apart_from = refuse_if (is_above old (above ++ name ∷ [])) IntoItself >>= λ _. nests
+
     kept : Asked (Unit {0})
     kept = refuse_if (holds_snapshots state old) HasSnapshots >>= λ _. apart_from
+
     below_root : Asked (Unit {0})
     below_root = refuse_if (is_root_path old) IsRoot >>= λ _. kept
+
     rest : Asked (Unit {0})
     rest = refuse_if (is_some (node_at state.tree (above ++ name ∷ []))) Exists >>= λ _. below_root
 
@@ -134,6 +136,7 @@ content-stamped (e ∷ es) path tick q =
   where
     kept : (restamp path tick e).0 ≡ e.0
     kept = elim (same_path path e.0) as (λ b. (cond b (e.0, record e.1 { stamp = tick }) e).0 ≡ e.0) [ true ↦ refl | false ↦ refl ]
+
     alike : (restamp path tick e).1.body ≡ e.1.body
     alike = elim (same_path path e.0) as (λ b. (cond b (e.0, record e.1 { stamp = tick }) e).1.body ≡ e.1.body) [ true ↦ refl | false ↦ refl ]
 
@@ -147,7 +150,7 @@ made-put : {X : Type 0} (s : Sight X) (at : Names) (node : X) (q : Names) → co
 made-put s at node q = by_one (rest_below at q)
     (λ r below. ap (λ (x : Names). cond (same_path at x) (Some node) (s q)) (rest-so at q r below) ∙ ap (λ b. cond b (Some node) (s q)) (same-more at r) ∙ here r ∙ sym (ap (λ o. inside_or o (at_top node (s q)) (s q)) below))
     (λ apart. ap (λ b. cond b (Some node) (s q)) (by (same_path at q) (λ t. absurd (none_some (sym apart ∙ ap (rest_below at) (same-so at q t ∙ sym (append-nil at)) ∙ rest-here at []))) (λ f. f))
-      ∙ sym (ap (λ o. inside_or o (at_top node (s q)) (s q)) apart))
+    ∙ sym (ap (λ o. inside_or o (at_top node (s q)) (s q)) apart))
   where
     here : (r : Names) → cond (same_path [] r) (Some node) (s q) ≡ at_top node (s q) r
     here [] = refl
@@ -174,19 +177,24 @@ module _ (state : State (List ℕ)) (is : IsTree state.tree) (root : Names) (bar
     where
       next : Names × Names → Asked (Names × Names)
       next paths = may_move state paths.0 paths.1 >>= λ _. Ok paths
+
       seen : (o : Option (Node (List ℕ))) → is_some (content_of o) ≡ true → (n : Node (List ℕ)) × (o ≡ Some n)
       seen None h = absurd (true_false h refl)
       seen (Some n) h = (n, refl)
+
       dir : (o : Option (Node (List ℕ))) (d : Content) → content_of o ≡ Some d → is_dir_body d ≡ true → (n : Node (List ℕ)) × (o ≡ Some n) × (is_dir n ≡ true)
       dir None d e h = absurd (none_some e)
       dir (Some n) d e h = (n, refl, ap is_dir_body (same_some e) ∙ h)
+
       gone : (o : Option (Node (List ℕ))) → content_of o ≡ None → o ≡ None
       gone None h = refl
       gone (Some n) h = absurd (none_some (sym h))
+
       root-below : (root old : Names) → (old ≡ [] → ⊥) → is_root_path (root ++ old) ≡ false
       root-below [] [] h = absurd (h refl)
       root-below [] (n ∷ old) h = refl
       root-below (r ∷ root) old h = refl
+
       allowed : may_move state (root ++ old) (root ++ (above ++ name ∷ [])) ≡ Ok tt
       allowed =
           let n : (n : Node (List ℕ)) × (node_at state.tree (root ++ old) ≡ Some n) = seen (node_at state.tree (root ++ old)) goes.there in
@@ -194,7 +202,7 @@ module _ (state : State (List ℕ)) (is : IsTree state.tree) (root : Names) (bar
           let e : root ++ (above ++ name ∷ []) ≡ (root ++ above) ++ name ∷ [] = sym (append_assoc root above (name ∷ [])) in
           ap (may_move state (root ++ old)) e
           ∙ may-move state is (root ++ old) (root ++ above) name n.0 d.0 n.1 (root-below root old below) d.1 d.2 (ap (node_at state.tree) (sym e) ∙ gone (node_at state.tree (root ++ (above ++ name ∷ []))) goes.free) (ap (rest_below (root ++ old)) (sym e) ∙ rest-root root old (above ++ name ∷ []) ∙ apart)
-              (bare.no_snapshots old below) (bare.none_snapshottable old below)
+          (bare.no_snapshots old below) (bare.none_snapshottable old below)
 
   content-moved : (old new q : Names) → node_at state.tree (root ++ new) ≡ None → content_of (node_at (renamed state (root ++ old, root ++ new)).tree (root ++ q)) ≡ moved_sight (held state root) old new q
   content-moved old new q free =
@@ -245,7 +253,7 @@ module _ (state : State (List ℕ)) (is : IsTree state.tree) (root : Names) (bar
   mkdir-ok text above name leads makes =
       ap (λ (a : Asked Names). a >>= λ path. walks_above state.tree path >>= λ _. refuse_if (is_some (node_at state.tree path)) Exists >>= λ _. Ok path) leads
       ∙ ap (λ (w : Asked (Unit {0})). w >>= λ _. refuse_if (is_some (node_at state.tree (root ++ (above ++ name ∷ [])))) Exists >>= λ _. Ok (root ++ (above ++ name ∷ [])))
-          (reach above name (ap is_dir_seen makes.above_dir.1 ∙ makes.above_dir.2))
+      (reach above name (ap is_dir_seen makes.above_dir.1 ∙ makes.above_dir.2))
       ∙ ap (λ o. refuse_if (is_some o) Exists >>= λ _. Ok (root ++ (above ++ name ∷ []))) (gone-so (node_at state.tree (root ++ (above ++ name ∷ []))) makes.free)
 
   -- a mkdir that goes is accepted, and changes what is seen
@@ -271,10 +279,10 @@ module _ (state : State (List ℕ)) (is : IsTree state.tree) (root : Names) (bar
   create-ok text path leads goes =
       ap (λ (a : Asked Names). a >>= λ at. walks_above state.tree at >>= λ _. takes_place_of true (node_at state.tree at) >>= λ _. Ok at) leads
       ∙ ap (λ (w : Asked (Unit {0})). w >>= λ _. takes_place_of true (node_at state.tree (root ++ path)) >>= λ _. Ok (root ++ path))
-          (by_last (λ p. is_dir_seen (held state root (parent_of p)) ≡ true → not (is_dir_seen (held state root p)) ≡ true → walks_above state.tree (root ++ p) ≡ Ok tt) path
-            (λ above fits. absurd (true_false above (not-not (is_dir_seen (held state root [])) fits)))
-            (λ up name above fits. reach up name (ap (λ (p : Names). is_dir_seen (held state root p)) (sym (parent_of-last up name)) ∙ above))
-            goes.above goes.fits)
+      (by_last (λ p. is_dir_seen (held state root (parent_of p)) ≡ true → not (is_dir_seen (held state root p)) ≡ true → walks_above state.tree (root ++ p) ≡ Ok tt) path
+      (λ above fits. absurd (true_false above (not-not (is_dir_seen (held state root [])) fits)))
+      (λ up name above fits. reach up name (ap (λ (p : Names). is_dir_seen (held state root p)) (sym (parent_of-last up name)) ∙ above))
+      goes.above goes.fits)
       ∙ ap (λ (t : Asked (Unit {0})). t >>= λ _. Ok (root ++ path)) (takes-ok (node_at state.tree (root ++ path)) goes.fits)
 
   -- a create over that goes is accepted, and changes what is seen
@@ -294,12 +302,13 @@ module _ (state : State (List ℕ)) (is : IsTree state.tree) (root : Names) (bar
 
   pub append-ok : (text bytes : List ℕ) (path : Names) → Leads text root path → CallGoes (held state root) (Append path bytes) → (at : Names × Node (List ℕ) × List ℕ) × (append_at state text ≡ Ok at) × (at.0 ≡ root ++ path)
   append-ok text bytes path leads goes =
-      let at : (n : Node (List ℕ)) × (file : List ℕ) × (node_at state.tree (root ++ path) ≡ Some n) × (n.body ≡ File file) = file-so (node_at state.tree (root ++ path)) goes.fits in
-      ((root ++ path, at.0, at.1),
-       ap (λ (a : Asked Names). a >>= λ p. walk state.tree p >>= λ node. file_in node.body >>= λ file. Ok (p, node, file)) leads
-       ∙ ap (λ (w : Asked (Node (List ℕ))). w >>= λ node. file_in node.body >>= λ file. Ok (root ++ path, node, file)) (walk-ok state.tree is (root ++ path) at.0 at.2)
-       ∙ ap (λ (b : Content). file_in b >>= λ file. Ok (root ++ path, at.0, file)) at.3,
-       refl)
+      let at : (n : Node (List ℕ)) × (file : List ℕ) × (node_at state.tree (root ++ path) ≡ Some n) × (n.body ≡ File file) = file-so (node_at state.tree (root ++ path)) goes.fits in (
+        (root ++ path, at.0, at.1),
+        ap (λ (a : Asked Names). a >>= λ p. walk state.tree p >>= λ node. file_in node.body >>= λ file. Ok (p, node, file)) leads
+            ∙ ap (λ (w : Asked (Node (List ℕ))). w >>= λ node. file_in node.body >>= λ file. Ok (root ++ path, node, file)) (walk-ok state.tree is (root ++ path) at.0 at.2)
+            ∙ ap (λ (b : Content). file_in b >>= λ file. Ok (root ++ path, at.0, file)) at.3,
+        refl,
+      )
 
   pub delete-ok : (text : List ℕ) (tmp : List ℕ) → Leads text root (tmp ∷ []) → is_dir_seen (held state root (tmp ∷ [])) ≡ true → delete_at state text true ≡ Ok (root ++ tmp ∷ [])
   delete-ok text tmp leads there =
@@ -318,17 +327,17 @@ module _ (state : State (List ℕ)) (is : IsTree state.tree) (root : Names) (bar
   append-changes text bytes path leads goes q =
       let at : (n : Node (List ℕ)) × (file : List ℕ) × (node_at state.tree (root ++ path) ≡ Some n) × (n.body ≡ File file) = file-so (node_at state.tree (root ++ path)) goes.fits in
       ap (λ (a : Asked (Names × Node (List ℕ) × List ℕ)). held (if_asked (appended plain_files state bytes) state a) root q)
-        (ap (λ (a : Asked Names). a >>= λ p. walk state.tree p >>= λ node. file_in node.body >>= λ file. Ok (p, node, file)) leads
-         ∙ ap (λ (w : Asked (Node (List ℕ))). w >>= λ node. file_in node.body >>= λ file. Ok (root ++ path, node, file)) (walk-ok state.tree is (root ++ path) at.0 at.2)
-         ∙ ap (λ (b : Content). file_in b >>= λ file. Ok (root ++ path, at.0, file)) at.3)
+      (ap (λ (a : Asked Names). a >>= λ p. walk state.tree p >>= λ node. file_in node.body >>= λ file. Ok (p, node, file)) leads
+      ∙ ap (λ (w : Asked (Node (List ℕ))). w >>= λ node. file_in node.body >>= λ file. Ok (root ++ path, node, file)) (walk-ok state.tree is (root ++ path) at.0 at.2)
+      ∙ ap (λ (b : Content). file_in b >>= λ file. Ok (root ++ path, at.0, file)) at.3)
       ∙ ap content_of (node_at-put (root ++ path) (refilled at.0 (at.1 ++ bytes) (state.tick + 1)) state.tree (root ++ q))
       ∙ ap (λ b. content_of (cond b (Some (refilled at.0 (at.1 ++ bytes) (state.tick + 1))) (node_at state.tree (root ++ q)))) (same-root root path q)
       ∙ content-cond (same_path path q) (refilled at.0 (at.1 ++ bytes) (state.tick + 1)) (node_at state.tree (root ++ q))
       ∙ by (same_path path q)
-          (λ t. ap (λ b. cond b (Some (File (at.1 ++ bytes))) (held state root q)) t
-            ∙ sym (ap (option_map (grown_body bytes)) (ap (held state root) (same-so path q t) ∙ ap content_of at.2 ∙ ap (λ (b : Content). Some b) at.3))
-            ∙ sym (ap (λ b. cond b (option_map (grown_body bytes) (held state root q)) (held state root q)) t))
-          (λ f. ap (λ b. cond b (Some (File (at.1 ++ bytes))) (held state root q)) f ∙ sym (ap (λ b. cond b (option_map (grown_body bytes) (held state root q)) (held state root q)) f))
+      (λ t. ap (λ b. cond b (Some (File (at.1 ++ bytes))) (held state root q)) t
+      ∙ sym (ap (option_map (grown_body bytes)) (ap (held state root) (same-so path q t) ∙ ap content_of at.2 ∙ ap (λ (b : Content). Some b) at.3))
+      ∙ sym (ap (λ b. cond b (option_map (grown_body bytes) (held state root q)) (held state root q)) t))
+      (λ f. ap (λ b. cond b (Some (File (at.1 ++ bytes))) (held state root q)) f ∙ sym (ap (λ b. cond b (option_map (grown_body bytes) (held state root q)) (held state root q)) f))
 
   -- a recursive delete that goes is accepted, and changes what is seen
   pub delete-changes : (text : List ℕ) (tmp : List ℕ) → Leads text root (tmp ∷ []) → is_dir_seen (held state root (tmp ∷ [])) ≡ true →
@@ -338,7 +347,7 @@ module _ (state : State (List ℕ)) (is : IsTree state.tree) (root : Names) (bar
       ∙ content-stamped (without state.tree (root ++ tmp ∷ [])) (parent_of (root ++ tmp ∷ [])) (state.tick + 1) (root ++ q)
       ∙ ap content_of (node_at-without state.tree (root ++ tmp ∷ []) (root ++ q))
       ∙ by_one (rest_below (tmp ∷ []) q)
-          (λ r below. ap (λ b. content_of (cond (not b) (node_at state.tree (root ++ q)) None)) (under_test (root ++ q) (root ++ tmp ∷ []) r (rest-so (root ++ tmp ∷ []) (root ++ q) r (rest-root root (tmp ∷ []) q ∙ below)))
-            ∙ sym (ap (λ o. inside_or o (λ rest. None) (held state root q)) below))
-          (λ none. ap (λ b. content_of (cond (not b) (node_at state.tree (root ++ q)) None)) (apart_test (root ++ q) (root ++ tmp ∷ []) (not-under (root ++ tmp ∷ []) (root ++ q) (rest-root root (tmp ∷ []) q ∙ none)))
-            ∙ sym (ap (λ o. inside_or o (λ rest. None) (held state root q)) none))
+      (λ r below. ap (λ b. content_of (cond (not b) (node_at state.tree (root ++ q)) None)) (under_test (root ++ q) (root ++ tmp ∷ []) r (rest-so (root ++ tmp ∷ []) (root ++ q) r (rest-root root (tmp ∷ []) q ∙ below)))
+      ∙ sym (ap (λ o. inside_or o (λ rest. None) (held state root q)) below))
+      (λ none. ap (λ b. content_of (cond (not b) (node_at state.tree (root ++ q)) None)) (apart_test (root ++ q) (root ++ tmp ∷ []) (not-under (root ++ tmp ∷ []) (root ++ q) (rest-root root (tmp ∷ []) q ∙ none)))
+      ∙ sym (ap (λ o. inside_or o (λ rest. None) (held state root q)) none))

@@ -40,7 +40,7 @@ module _ {B : Type 0} where
   in-filter test [] q m at pass = absurd (none_some at)
   in-filter test (e ∷ es) q m at pass = by_place e es q m at
       (λ qe me. ap (λ b. is_in (map path_of_place (cond b (e ∷ filter test es) (filter test es))) q) (sym (λ i. test (qe i, me i)) ∙ pass)
-        ∙ ap (λ (x : Names). same_path e.0 x || is_in (map path_of_place (filter test es)) q) qe ∙ ap (λ b. b || is_in (map path_of_place (filter test es)) q) (same-here e.0))
+      ∙ ap (λ (x : Names). same_path e.0 x || is_in (map path_of_place (filter test es)) q) qe ∙ ap (λ b. b || is_in (map path_of_place (filter test es)) q) (same-here e.0))
       (λ bt. elim (test e) as (λ b. is_in (map path_of_place (cond b (e ∷ filter test es) (filter test es))) q ≡ true) [
         | true ↦ or_second (same_path e.0 q) (is_in (map path_of_place (filter test es)) q) (in-filter test es q m bt pass)
         | false ↦ in-filter test es q m bt pass
@@ -66,7 +66,7 @@ module _ {B : Type 0} where
     in-targets [] q m put at is = absurd (none_some at)
     in-targets (e ∷ es) q m put at is = by_place e es q m at
         (λ qe me. ap (λ o. is_in (targets (cons_option o (filter_map f es))) q) (sym (λ i. f (qe i, me i)) ∙ is)
-          ∙ ap (λ (x : Names). same_path x q || is_in (targets (filter_map f es)) q) (lands q m put is) ∙ ap (λ b. b || is_in (targets (filter_map f es)) q) (same-here q))
+        ∙ ap (λ (x : Names). same_path x q || is_in (targets (filter_map f es)) q) (lands q m put is) ∙ ap (λ b. b || is_in (targets (filter_map f es)) q) (same-here q))
         (λ bt. elim (f e) as (λ o. is_in (targets (cons_option o (filter_map f es))) q ≡ true) [
           | None ↦ in-targets es q m put bt is
           | Some other ↦ or_second (same_path (target other) q) (is_in (targets (filter_map f es)) q) (in-targets es q m put bt is)
@@ -101,26 +101,26 @@ module _ {B : Type 0} (from to : Tree B) (is : IsPair from to) where
       node_at from (p ++ n ∷ []) ≡ Some x → node_at to q ≡ Some m → m.id.0 ≡ x.id.0 → (q ≡ t ++ n ∷ [] → ⊥) → same_place from to (p ++ n ∷ []) q ≡ false
   moved_away p t q n a b x m here there alike at to_q same other = by_last (λ q. node_at to q ≡ Some m → (q ≡ t ++ n ∷ [] → ⊥) → same_place from to (p ++ n ∷ []) q ≡ false) q
       (λ at_root other. absurd (not_last p n (sym (one_place from from_tree.each_once [] (p ++ n ∷ []) is.from_root x is.from_at at
-        (is.same_root ∙ ap (λ (k : Node B). k.id.0) (same_some (sym is.to_at ∙ at_root)) ∙ same)))))
+      (is.same_root ∙ ap (λ (k : Node B). k.id.0) (same_some (sym is.to_at ∙ at_root)) ∙ same)))))
       (λ above name at other. let d : (dir : Node B) × (node_at to above ≡ Some dir) × (is_dir dir ≡ true) = dir-above to to_tree above name m at in
-        same_place-at from to p above n name a d.0 here d.1 ∙ by (same_inode a.id d.0.id && bytes_eq n name)
-          (λ both_same. absurd (other (one_child
-            (one_place to to_tree.each_once above t d.0 b d.1 there (sym ((Decides-eqb a.id.0 d.0.id.0).0 (first (same_inode a.id d.0.id) _ both_same)) ∙ alike))
-            (sym ((bytes_eq-Decides n name).0 (second (same_inode a.id d.0.id) _ both_same))))))
-          (λ f. f))
+      same_place-at from to p above n name a d.0 here d.1 ∙ by (same_inode a.id d.0.id && bytes_eq n name)
+      (λ both_same. absurd (other (one_child
+      (one_place to to_tree.each_once above t d.0 b d.1 there (sym ((Decides-eqb a.id.0 d.0.id.0).0 (first (same_inode a.id d.0.id) _ both_same)) ∙ alike))
+      (sym ((bytes_eq-Decides n name).0 (second (same_inode a.id d.0.id) _ both_same))))))
+      (λ f. f))
       to_q other
 
   pub moved_here : (p t q : Names) (n : List ℕ) (a b x m : Node B) → node_at from p ≡ Some a → node_at to t ≡ Some b → a.id.0 ≡ b.id.0 →
       node_at from q ≡ Some x → node_at to (t ++ n ∷ []) ≡ Some m → x.id.0 ≡ m.id.0 → (q ≡ p ++ n ∷ [] → ⊥) → same_place from to q (t ++ n ∷ []) ≡ false
   moved_here p t q n a b x m here there alike from_q at same other = by_last (λ q. node_at from q ≡ Some x → (q ≡ p ++ n ∷ [] → ⊥) → same_place from to q (t ++ n ∷ []) ≡ false) q
       (λ at_root other. absurd (not_last t n (sym (one_place to to_tree.each_once [] (t ++ n ∷ []) is.to_root m is.to_at at
-        (sym is.same_root ∙ ap (λ (k : Node B). k.id.0) (same_some (sym is.from_at ∙ at_root)) ∙ same)))))
+      (sym is.same_root ∙ ap (λ (k : Node B). k.id.0) (same_some (sym is.from_at ∙ at_root)) ∙ same)))))
       (λ above name from_at other. let d : (dir : Node B) × (node_at from above ≡ Some dir) × (is_dir dir ≡ true) = dir-above from from_tree above name x from_at in
-        same_place-at from to above t name n d.0 b d.1 there ∙ by (same_inode d.0.id b.id && bytes_eq name n)
-          (λ both_same. absurd (other (one_child
-            (one_place from from_tree.each_once above p d.0 a d.1 here ((Decides-eqb d.0.id.0 b.id.0).0 (first (same_inode d.0.id b.id) _ both_same) ∙ sym alike))
-            ((bytes_eq-Decides name n).0 (second (same_inode d.0.id b.id) _ both_same)))))
-          (λ f. f))
+      same_place-at from to above t name n d.0 b d.1 there ∙ by (same_inode d.0.id b.id && bytes_eq name n)
+      (λ both_same. absurd (other (one_child
+      (one_place from from_tree.each_once above p d.0 a d.1 here ((Decides-eqb d.0.id.0 b.id.0).0 (first (same_inode d.0.id b.id) _ both_same) ∙ sym alike))
+      ((bytes_eq-Decides name n).0 (second (same_inode d.0.id b.id) _ both_same)))))
+      (λ f. f))
       from_q other
 
   pub same_here : (p t : Names) (n : List ℕ) (a b : Node B) → node_at from p ≡ Some a → node_at to t ≡ Some b → a.id.0 ≡ b.id.0 → same_place from to (p ++ n ∷ []) (t ++ n ∷ []) ≡ true
@@ -140,7 +140,7 @@ module _ {B : Type 0} (from to : Tree B) (is : IsPair from to) where
   not-out : (p : Names) (x : Node B) → node_at from p ≡ Some x → goes from to (p, x) ≡ false → is_in (outs from to) p ≡ false
   not-out p x at stays = by (is_in (outs from to) p)
       (λ t. let y : (y : Node B) × (node_at from p ≡ Some y) × (goes from to (p, y) ≡ true) = out-from p t in
-        absurd (true_false (ap (λ (z : Node B). goes from to (p, z)) (same_some (sym at ∙ y.1)) ∙ y.2) stays))
+      absurd (true_false (ap (λ (z : Node B). goes from to (p, z)) (same_some (sym at ∙ y.1)) ∙ y.2) stays))
       (λ f. f)
 
   target-back : (i : ℕ) (q above : Names) (name : List ℕ) (put : Placing (Node B)) → q ≡ above ++ name ∷ [] → Some (Back i (parent_of q) (last_of q)) ≡ Some put → target put ≡ q
@@ -155,8 +155,8 @@ module _ {B : Type 0} (from to : Tree B) (is : IsPair from to) where
       ((m : Node B) → node_at to (t ++ n ∷ []) ≡ Some m → m.id.0 ≡ x.id.0 → ⊥) → goes from to (p ++ n ∷ [], x) ≡ true
   left-cut p t n a b x here there alike at other = by_one (place_of to x.id)
       (λ place h. let so : (node_at to place.0 ≡ Some place.1) × (place.1.id.0 ≡ x.id.0) = place_of-so to x.id place to_tree.sorted h in
-        ap (goes_by from to (p ++ n ∷ [])) h
-        ∙ ap not (moved_away p t place.0 n a b x place.1 here there alike at so.0 so.1 (λ e. other place.1 (ap (node_at to) (sym e) ∙ so.0) so.1)))
+      ap (goes_by from to (p ++ n ∷ [])) h
+      ∙ ap not (moved_away p t place.0 n a b x place.1 here there alike at so.0 so.1 (λ e. other place.1 (ap (node_at to) (sym e) ∙ so.0) so.1)))
       (λ none. ap (goes_by from to (p ++ n ∷ [])) none ∙ ap (has_id to) (id_above-at from p n a here) ∙ ap is_some (place_of-here to to_tree t b a.id there alike))
 
   -- ---- puts
@@ -187,7 +187,7 @@ module _ {B : Type 0} (from to : Tree B) (is : IsPair from to) where
   not-put : (q : Names) (m : Node B) → node_at to q ≡ Some m → placing_at from to (q, m) ≡ None → is_in (targets (placings from to)) q ≡ false
   not-put q m at none = by (is_in (targets (placings from to)) q)
       (λ t. let y : (y : Node B) × (put : Placing (Node B)) × (node_at to q ≡ Some y) × (placing_at from to (q, y) ≡ Some put) = from-targets (placing_at from to) lands to q to_tree.sorted t in
-        none-put (sym none ∙ ap (λ (z : Node B). placing_at from to (q, z)) (same_some (sym at ∙ y.2)) ∙ y.3))
+      none-put (sym none ∙ ap (λ (z : Node B). placing_at from to (q, z)) (same_some (sym at ∙ y.2)) ∙ y.3))
       (λ f. f)
 
   -- a node that isn't a new file comes by a put where it isn't in its old place
@@ -198,18 +198,18 @@ module _ {B : Type 0} (from to : Tree B) (is : IsPair from to) where
       ((old : Names × Node B) → place_of from m.id ≡ Some old → same_place from to old.0 (t ++ n ∷ []) ≡ false) → is_in (targets (placings from to)) (t ++ n ∷ []) ≡ true
   comes t n m at old_one moves = by_one (place_of from m.id)
       (λ old h. put-so (t ++ n ∷ []) m (Back (index_of (outs from to) old.0) (parent_of (t ++ n ∷ [])) (last_of (t ++ n ∷ []))) at
-        (put-by t n m ∙ ap (placing_by from to (t ++ n ∷ [], m)) h ∙ ap (λ b. cond b None (Some (Back (index_of (outs from to) old.0) (parent_of (t ++ n ∷ [])) (last_of (t ++ n ∷ []))))) (moves old h)))
+      (put-by t n m ∙ ap (placing_by from to (t ++ n ∷ [], m)) h ∙ ap (λ b. cond b None (Some (Back (index_of (outs from to) old.0) (parent_of (t ++ n ∷ [])) (last_of (t ++ n ∷ []))))) (moves old h)))
       (λ none. put-so (t ++ n ∷ []) m (New m (parent_of (t ++ n ∷ [])) (last_of (t ++ n ∷ []))) at
-        (put-by t n m ∙ ap (placing_by from to (t ++ n ∷ [], m)) none ∙ ap (λ b. cond b (Some (New m (parent_of (t ++ n ∷ [])) (last_of (t ++ n ∷ [])))) None)
-          (or_split (is_dir m) (is_some (place_of from m.id)) old_one (λ d. d) (λ s. absurd (true_false s (ap is_some none))))))
+      (put-by t n m ∙ ap (placing_by from to (t ++ n ∷ [], m)) none ∙ ap (λ b. cond b (Some (New m (parent_of (t ++ n ∷ [])) (last_of (t ++ n ∷ [])))) None)
+      (or_split (is_dir m) (is_some (place_of from m.id)) old_one (λ d. d) (λ s. absurd (true_false s (ap is_some none))))))
 
   right-cut : (p t : Names) (n : List ℕ) (a b : Node B) → node_at from p ≡ Some a → node_at to t ≡ Some b → a.id.0 ≡ b.id.0 →
       ((x m : Node B) → node_at from (p ++ n ∷ []) ≡ Some x → node_at to (t ++ n ∷ []) ≡ Some m → x.id.0 ≡ m.id.0 → ⊥) → (old_sight from to (t ++ n ∷ []) ≡ None ⊎ is_in (targets (placings from to)) (t ++ n ∷ []) ≡ true)
   right-cut p t n a b here there alike other = by_one (node_at to (t ++ n ∷ []))
       (λ m at. by (is_old m)
-        (λ old_one. inr (comes t n m at old_one (λ old h. let so : (node_at from old.0 ≡ Some old.1) × (old.1.id.0 ≡ m.id.0) = place_of-so from m.id old from_tree.sorted h in
-          moved_here p t old.0 n a b old.1 m here there alike so.0 at so.1 (λ e. other old.1 m (ap (node_at from) (sym e) ∙ so.0) at so.1))))
-        (λ new_one. inl (ap (if_old from) at ∙ ap (λ c. cond c (Some m) None) new_one)))
+      (λ old_one. inr (comes t n m at old_one (λ old h. let so : (node_at from old.0 ≡ Some old.1) × (old.1.id.0 ≡ m.id.0) = place_of-so from m.id old from_tree.sorted h in
+      moved_here p t old.0 n a b old.1 m here there alike so.0 at so.1 (λ e. other old.1 m (ap (node_at from) (sym e) ∙ so.0) at so.1))))
+      (λ new_one. inl (ap (if_old from) at ∙ ap (λ c. cond c (Some m) None) new_one)))
       (λ none. inl (ap (if_old from) none))
 
   -- ---- alike
@@ -270,14 +270,16 @@ module _ {B : Type 0} (from to : Tree B) (is : IsPair from to) where
   child-at : (p t : Names) (n : List ℕ) (a b : Node B) → node_at from p ≡ Some a → node_at to t ≡ Some b → a.id.0 ≡ b.id.0 → Meets (p ++ n ∷ []) (t ++ n ∷ [])
   child-at p t n a b here there alike = by_one (node_at from (p ++ n ∷ []))
       (λ x at. by_one (node_at to (t ++ n ∷ []))
-        (λ m to_at. by (x.id.0 == m.id.0)
-          (λ same. inl (child-same p t n a b x m here there alike at to_at ((Decides-eqb x.id.0 m.id.0).0 same)))
-          (λ differ. inr
-            (inr (out-so (p ++ n ∷ []) x at (left-cut p t n a b x here there alike at (λ k kt same. other x m differ x k at at to_at kt (sym same)))),
-             right-cut p t n a b here there alike (λ y k yt kt same. other x m differ y k at yt to_at kt same))))
-        (λ none. inr
-          (inr (out-so (p ++ n ∷ []) x at (left-cut p t n a b x here there alike at (λ k kt same. none_some (sym none ∙ kt)))),
-           inl (ap (if_old from) none))))
+      (λ m to_at. by (x.id.0 == m.id.0)
+      (λ same. inl (child-same p t n a b x m here there alike at to_at ((Decides-eqb x.id.0 m.id.0).0 same)))
+      (λ differ. inr (
+        inr (out-so (p ++ n ∷ []) x at (left-cut p t n a b x here there alike at (λ k kt same. other x m differ x k at at to_at kt (sym same)))),
+        right-cut p t n a b here there alike (λ y k yt kt same. other x m differ y k at yt to_at kt same),
+      )))
+      (λ none. inr (
+        inr (out-so (p ++ n ∷ []) x at (left-cut p t n a b x here there alike at (λ k kt same. none_some (sym none ∙ kt)))),
+        inl (ap (if_old from) none),
+      )))
       (λ none. inr (inl none, right-cut p t n a b here there alike (λ y k yt kt same. none_some (sym none ∙ yt))))
     where
       other : (x m : Node B) → (x.id.0 == m.id.0) ≡ false → (y k : Node B) → node_at from (p ++ n ∷ []) ≡ Some x → node_at from (p ++ n ∷ []) ≡ Some y → node_at to (t ++ n ∷ []) ≡ Some m → node_at to (t ++ n ∷ []) ≡ Some k → y.id.0 ≡ k.id.0 → ⊥
@@ -303,9 +305,9 @@ module _ {B : Type 0} (from to : Tree B) (is : IsPair from to) where
       let so : (node_at from old.0 ≡ Some old.1) × (old.1.id.0 ≡ c.id.0) = place_of-so from c.id old from_tree.sorted h in
       by_last (λ q. node_at from q ≡ Some old.1 → same_place from to q (t ++ n ∷ []) ≡ false) old.0
       (λ at_root. absurd (not_last t n (sym (one_place to to_tree.each_once [] (t ++ n ∷ []) is.to_root c is.to_at at
-        (sym is.same_root ∙ ap (λ (k : Node B). k.id.0) (same_some (sym is.from_at ∙ at_root)) ∙ so.1)))))
+      (sym is.same_root ∙ ap (λ (k : Node B). k.id.0) (same_some (sym is.from_at ∙ at_root)) ∙ so.1)))))
       (λ above name from_at. let d : (up : Node B) × (node_at from above ≡ Some up) × (is_dir up ≡ true) = dir-above from from_tree above name old.1 from_at in
-        same_place-at from to above t name n d.0 dir d.1 there ∙ by (same_inode d.0.id dir.id && bytes_eq name n)
-          (λ both_same. absurd (place_of-missing from dir.id above d.0 new d.1 ((Decides-eqb d.0.id.0 dir.id.0).0 (first (same_inode d.0.id dir.id) _ both_same))))
-          (λ f. f))
+      same_place-at from to above t name n d.0 dir d.1 there ∙ by (same_inode d.0.id dir.id && bytes_eq name n)
+      (λ both_same. absurd (place_of-missing from dir.id above d.0 new d.1 ((Decides-eqb d.0.id.0 dir.id.0).0 (first (same_inode d.0.id dir.id) _ both_same))))
+      (λ f. f))
       so.0

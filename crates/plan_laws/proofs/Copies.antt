@@ -51,9 +51,10 @@ each-kept call seen (c ∷ calls) fits above = (dir-kept call seen (parent_of (p
 pub calls-go : (calls : List CopyCall) (seen : Contents) → ((q : Names) → FitHere (filter (is_at q) calls) (seen q)) → AllByRecursion (λ call. is_dir_seen (seen (parent_of (path_of_call call))) ≡ true) calls → CallsGo seen calls
 calls-go [] seen fit above = tt
 calls-go (call ∷ calls) seen fit above =
-    let fits : fits_here call (seen (path_of_call call)) ≡ true = fit-own call calls seen (fit (path_of_call call)) in
-    (record { above = above.0; fits = fits },
-     calls-go calls (call_done seen call) (λ q. fit-rest q call calls seen (fit q)) (each-kept call seen calls fits above.1))
+    let fits : fits_here call (seen (path_of_call call)) ≡ true = fit-own call calls seen (fit (path_of_call call)) in (
+      record { above = above.0; fits = fits },
+      calls-go calls (call_done seen call) (λ q. fit-rest q call calls seen (fit q)) (each-kept call seen calls fits above.1),
+    )
 
 pub dirs-kept : (calls : List CopyCall) (seen : Contents) (d : Names) → CallsGo seen calls → is_dir_seen (seen d) ≡ true → is_dir_seen (calls_done seen calls d) ≡ true
 dirs-kept [] seen d go dir = dir

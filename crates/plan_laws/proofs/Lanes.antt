@@ -33,14 +33,14 @@ taken-here (call ∷ calls) seen q none =
     let head : (is_at (parent_of q) call ≡ false) × (filter (is_at (parent_of q)) calls ≡ []) = none-head (parent_of q) call calls none in
     taken-here calls (call_taken seen call) q head.1
     ∙ ap (λ o. all_taken_here (is_dir_seen o) (filter (is_at q) calls) (call_taken seen call q))
-        (ap (λ b. cond b (taken_here (is_dir_seen (seen (parent_of (path_of_call call)))) call (seen (parent_of q))) (seen (parent_of q))) head.0)
+    (ap (λ b. cond b (taken_here (is_dir_seen (seen (parent_of (path_of_call call)))) call (seen (parent_of q))) (seen (parent_of q))) head.0)
     ∙ by (is_at q call)
-        (λ t. let same : q ≡ path_of_call call = same-so (path_of_call call) q t in
-          ap (λ b. all_taken_here (is_dir_seen (seen (parent_of q))) (filter (is_at q) calls) (cond b (taken_here (is_dir_seen (seen (parent_of (path_of_call call)))) call (seen q)) (seen q))) t
-          ∙ ap (λ (p : Names). all_taken_here (is_dir_seen (seen (parent_of q))) (filter (is_at q) calls) (taken_here (is_dir_seen (seen (parent_of p))) call (seen q))) (sym same)
-          ∙ ap (λ b. all_taken_here (is_dir_seen (seen (parent_of q))) (cond b (call ∷ filter (is_at q) calls) (filter (is_at q) calls)) (seen q)) (sym t))
-        (λ f. ap (λ b. all_taken_here (is_dir_seen (seen (parent_of q))) (filter (is_at q) calls) (cond b (taken_here (is_dir_seen (seen (parent_of (path_of_call call)))) call (seen q)) (seen q))) f
-          ∙ ap (λ b. all_taken_here (is_dir_seen (seen (parent_of q))) (cond b (call ∷ filter (is_at q) calls) (filter (is_at q) calls)) (seen q)) (sym f))
+    (λ t. let same : q ≡ path_of_call call = same-so (path_of_call call) q t in
+    ap (λ b. all_taken_here (is_dir_seen (seen (parent_of q))) (filter (is_at q) calls) (cond b (taken_here (is_dir_seen (seen (parent_of (path_of_call call)))) call (seen q)) (seen q))) t
+    ∙ ap (λ (p : Names). all_taken_here (is_dir_seen (seen (parent_of q))) (filter (is_at q) calls) (taken_here (is_dir_seen (seen (parent_of p))) call (seen q))) (sym same)
+    ∙ ap (λ b. all_taken_here (is_dir_seen (seen (parent_of q))) (cond b (call ∷ filter (is_at q) calls) (filter (is_at q) calls)) (seen q)) (sym t))
+    (λ f. ap (λ b. all_taken_here (is_dir_seen (seen (parent_of q))) (filter (is_at q) calls) (cond b (taken_here (is_dir_seen (seen (parent_of (path_of_call call)))) call (seen q)) (seen q))) f
+    ∙ ap (λ b. all_taken_here (is_dir_seen (seen (parent_of q))) (cond b (call ∷ filter (is_at q) calls) (filter (is_at q) calls)) (seen q)) (sym f))
 
 -- a path at which no call is holds what it held
 taken-apart : (calls : List CopyCall) (seen : Contents) (q : Names) → filter (is_at q) calls ≡ [] → calls_taken seen calls q ≡ seen q
@@ -67,14 +67,14 @@ module _ (from to : Tree (List ℕ)) (is : IsPair from to) (dirs : (above : Name
   above-apart q m at n bt = by_last (λ q. node_at to q ≡ Some m → node_at to (parent_of q) ≡ Some n → is_copied from (parent_of q, n) ≡ false) q
       (λ at bt. dir-apart [] is.to_root is.to_at root-dir n bt)
       (λ above name at bt. let d : (dir : Node (List ℕ)) × (node_at to above ≡ Some dir) × (is_dir dir ≡ true) = dirs above name m at in
-        dir-apart (parent_of (above ++ name ∷ [])) d.0 (ap (node_at to) (parent_of-last above name) ∙ d.1) d.2 n bt)
+      dir-apart (parent_of (above ++ name ∷ [])) d.0 (ap (node_at to) (parent_of-last above name) ∙ d.1) d.2 n bt)
       at bt
 
   -- any two mergings lead to the same
   pub mergings-same : (seen : Contents) (q : Names) → calls_taken seen one q ≡ calls_taken seen two q
   mergings-same seen q = by-copied q
       (λ m at copied.
-        taken-here one seen q (is_one.elsewhere (parent_of q) (above-apart q m at))
-        ∙ ap (λ (cs : List CopyCall). all_taken_here (is_dir_seen (seen (parent_of q))) cs (seen q)) (is_one.at_copy q m at copied ∙ sym (is_two.at_copy q m at copied))
-        ∙ sym (taken-here two seen q (is_two.elsewhere (parent_of q) (above-apart q m at))))
+      taken-here one seen q (is_one.elsewhere (parent_of q) (above-apart q m at))
+      ∙ ap (λ (cs : List CopyCall). all_taken_here (is_dir_seen (seen (parent_of q))) cs (seen q)) (is_one.at_copy q m at copied ∙ sym (is_two.at_copy q m at copied))
+      ∙ sym (taken-here two seen q (is_two.elsewhere (parent_of q) (above-apart q m at))))
       (λ other. taken-apart one seen q (is_one.elsewhere q other) ∙ sym (taken-apart two seen q (is_two.elsewhere q other)))

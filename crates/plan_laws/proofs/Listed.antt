@@ -133,8 +133,10 @@ module _ {B : Type 0} (from to : Tree B) (is : IsPair from to) where
 
   del-not : Deleted ≡ Created → ⊥
   del-not e = cc
+
   ren-not : Renamed ≡ Created → ⊥
   ren-not e = cc
+
   mod-not : Modified ≡ Created → ⊥
   mod-not e = cc
 
@@ -153,19 +155,20 @@ module _ {B : Type 0} (from to : Tree B) (is : IsPair from to) where
       at-root : node_at to [] ≡ Some m → created from to ([], m) ≡ Some one → Tells one
       at-root at h = let same : is.to_root ≡ m = same_some (sym is.to_at ∙ at) in
           absurd (none_some (sym (ap (created_by from to ([], m)) (place_of-here from is.from_tree [] is.from_root m.id is.from_at (ap (λ (x : Node B). x.id.0) (sym same) ∙ sym is.same_root))) ∙ h))
+
       at-last : (t : Names) (n : List ℕ) → node_at to (t ++ n ∷ []) ≡ Some m → created from to (t ++ n ∷ [], m) ≡ Some one → Tells one
       at-last t n at h = by_one (place_of from m.id)
           (λ old e. absurd (none_some (sym (ap (created_by from to (t ++ n ∷ [], m)) e) ∙ h)))
           (λ new. let d : (dir : Node B) × (node_at to t ≡ Some dir) × (is_dir dir ≡ true) = dir-above to is.to_tree t n m at in by_one (place_of from d.0.id)
-            (λ old e. let w : (created from to (t ++ n ∷ [], m) ≡ Some (line_of Created (old.0 ++ n ∷ []) None m)) × (translate lines old.0 ++ n ∷ [] ≡ t ++ n ∷ []) = created-at from to is t n m d.0 old.1 old.0 at d.1 new e in
-              subst Tells (same_some (sym w.0 ∙ h)) (λ _. record {
-                node = m;
-                at = ap (node_at to) (one_child (ap (translate lines) (parent_of-last old.0 n)) (last_of-last old.0 n) ∙ w.1) ∙ at;
-                same_id = refl;
-                same_kind = refl;
-                new = new;
-              }))
-            (λ gone. absurd (none_some (sym (ap (created_by from to (t ++ n ∷ [], m)) new ∙ ap (λ o. created_in (t ++ n ∷ [], m) (place_above from o)) (id_above-at to t n d.0 d.1) ∙ ap (created_in (t ++ n ∷ [], m)) gone) ∙ h))))
+          (λ old e. let w : (created from to (t ++ n ∷ [], m) ≡ Some (line_of Created (old.0 ++ n ∷ []) None m)) × (translate lines old.0 ++ n ∷ [] ≡ t ++ n ∷ []) = created-at from to is t n m d.0 old.1 old.0 at d.1 new e in
+          subst Tells (same_some (sym w.0 ∙ h)) (λ _. record {
+            node = m;
+            at = ap (node_at to) (one_child (ap (translate lines) (parent_of-last old.0 n)) (last_of-last old.0 n) ∙ w.1) ∙ at;
+            same_id = refl;
+            same_kind = refl;
+            new = new;
+          }))
+          (λ gone. absurd (none_some (sym (ap (created_by from to (t ++ n ∷ [], m)) new ∙ ap (λ o. created_in (t ++ n ∷ [], m) (place_above from o)) (id_above-at to t n d.0 d.1) ∙ ap (created_in (t ++ n ∷ [], m)) gone) ∙ h))))
 
   each-created : (P : Line → Type 0) (tree : Tree B) → is_sorted path_cmp tree ≡ true → ((q : Names) (m : Node B) (one : Line) → node_at tree q ≡ Some m → created from to (q, m) ≡ Some one → P one) → AllByRecursion P (filter_map (created from to) tree)
   each-created P [] h all = tt
@@ -195,7 +198,7 @@ module _ {B : Type 0} (from to : Tree B) (is : IsPair from to) where
   path-so [] id path sound h = absurd (none_some h)
   path-so (one ∷ news) id path sound h = by (same_inode one.id id)
       (λ t. let same : one.path ≡ path = same_some (ap (λ b. cond b (Some one.path) (path_in news id)) (sym t) ∙ h) in
-        (sound.0.node, ap (node_at to) (sym same) ∙ sound.0.at, sound.0.same_id ∙ (Decides-eqb one.id.0 id.0).0 t))
+      (sound.0.node, ap (node_at to) (sym same) ∙ sound.0.at, sound.0.same_id ∙ (Decides-eqb one.id.0 id.0).0 t))
       (λ f. path-so news id path sound.1 (ap (λ b. cond b (Some one.path) (path_in news id)) (sym f) ∙ h))
 
   -- the path that was found for a listed directory is its path
@@ -214,11 +217,15 @@ module _ {B : Type 0} (from to : Tree B) (is : IsPair from to) where
           each-cons : (o : Option NewItem) → new_in lines listed.path item ≡ o → AllByRecursion Sound (filter_map (new_in lines listed.path) items) → AllByRecursion Sound (cons_option o (filter_map (new_in lines listed.path) items))
           each-cons None t rest = rest
           each-cons (Some new) t rest = (all.0 new t, rest)
+
       one-sound : (n : List ℕ) (m : Node B) → node_at to (listed.path ++ n ∷ []) ≡ Some m → (new : NewItem) → new_in lines listed.path (item_of m n) ≡ Some new → Sound new
       one-sound n m at new h = by (renames_id lines m.id)
           (λ t. absurd (none_some (sym (ap (λ b. cond b None (Some (record { id = m.id; is_dir = is_dir m; path = listed.path ++ n ∷ [] }))) t) ∙ h)))
           (λ f. subst Sound (same_some (sym (ap (λ b. cond b None (Some (record { id = m.id; is_dir = is_dir m; path = listed.path ++ n ∷ [] }))) f) ∙ h)) (record {
-            node = m; at = at; same_id = refl; same_kind = refl;
+            node = m;
+            at = at;
+            same_id = refl;
+            same_kind = refl;
             new = by_one (place_of from m.id) (λ old e. absurd (true_false (renamed-id from to is listed.path n listed.dir m old listed.at listed.new at e) f)) (λ none. none);
           }))
 
@@ -249,7 +256,7 @@ module _ {B : Type 0} (from to : Tree B) (is : IsPair from to) where
       let w : (created from to (t ++ n ∷ [], m) ≡ Some (line_of Created (old.0 ++ n ∷ []) None m)) × (translate lines old.0 ++ n ∷ [] ≡ t ++ n ∷ []) = created-at from to is t n m d old.1 old.0 at there new was in
       in-filter_map (λ one. new_by lines one.kind one) lines (line_of Created (old.0 ++ n ∷ []) None m) (item_at (t ++ n ∷ []) m)
       (in-with_lines (filter_map (created from to) to) (flat_map (lines_from from to) from) (line_of Created (old.0 ++ n ∷ []) None m)
-        (in-filter_map (created from to) to (t ++ n ∷ [], m) (line_of Created (old.0 ++ n ∷ []) None m) (in-places to (t ++ n ∷ []) m at) w.0))
+      (in-filter_map (created from to) to (t ++ n ∷ [], m) (line_of Created (old.0 ++ n ∷ []) None m) (in-places to (t ++ n ∷ []) m at) w.0))
       (ap (λ (p : Names). Some (item_at p m)) (one_child (ap (translate lines) (parent_of-last old.0 n)) (last_of-last old.0 n) ∙ w.1))
 
   -- new in a listed directory
@@ -265,27 +272,30 @@ module _ {B : Type 0} (from to : Tree B) (is : IsPair from to) where
           in-filter_map (new_in lines path) one.items (item_of m n) (item_at (t ++ n ∷ []) m)
           (subst (λ items. IsIn items (item_of m n)) (ap (listing to) t_is ∙ sym its.items) (listed-child to t n m at))
           (ap (λ b. cond b None (Some (item_at (path ++ n ∷ []) m))) no_line ∙ ap (λ (p : Names). Some (item_at (p ++ n ∷ []) m)) path_is)
+
       spread : (before listings : List Listing) (news : List NewItem) → listings ≡ before ++ one ∷ in_list.after → AllByRecursion (IsListed from to) listings → AllByRecursion Sound news → InOrder lines news listings → IsIn (grown lines news listings) (item_at (t ++ n ∷ []) m)
       spread [] listings news e listed sound ordered =
           let listed2 : AllByRecursion (IsListed from to) (one ∷ in_list.after) = subst (AllByRecursion (IsListed from to)) e listed in
           let ordered2 : InOrder lines news (one ∷ in_list.after) = subst (InOrder lines news) e ordered in
           subst (λ ls. IsIn (grown lines news ls) (item_at (t ++ n ∷ []) m)) (sym e)
           (grown-keeps in_list.after (news ++ news_at lines one.items (path_in news one.dir)) (item_at (t ++ n ∷ []) m)
-            (in-right news (news_at lines one.items (path_in news one.dir)) (item_at (t ++ n ∷ []) m) (added news listed2.0 sound (path_in news one.dir) refl ordered2.0)))
+          (in-right news (news_at lines one.items (path_in news one.dir)) (item_at (t ++ n ∷ []) m) (added news listed2.0 sound (path_in news one.dir) refl ordered2.0)))
       spread (y ∷ ys) listings news e listed sound ordered =
           let listed2 : AllByRecursion (IsListed from to) (y ∷ (ys ++ one ∷ in_list.after)) = subst (AllByRecursion (IsListed from to)) e listed in
           let ordered2 : InOrder lines news (y ∷ (ys ++ one ∷ in_list.after)) = subst (InOrder lines news) e ordered in
           subst (λ ls. IsIn (grown lines news ls) (item_at (t ++ n ∷ []) m)) (sym e)
           (spread ys (ys ++ one ∷ in_list.after) (news ++ news_at lines y.items (path_in news y.dir)) refl listed2.1
-            (each-append Sound news (news_at lines y.items (path_in news y.dir)) sound (news-sound news y listed2.0 sound (path_in news y.dir) refl)) ordered2.1)
+          (each-append Sound news (news_at lines y.items (path_in news y.dir)) sound (news-sound news y listed2.0 sound (path_in news y.dir) refl)) ordered2.1)
 
   abbrev HasNode : Line → Type 0
   HasNode one = (t : Names) → one.kind ≡ Renamed → one.to ≡ Some t → (p : Names) × (x : Node B) × (node_at from p ≡ Some x) × (x.id.0 ≡ one.id.0)
 
   del-ren : Deleted ≡ Renamed → ⊥
   del-ren e = cc
+
   mod-ren : Modified ≡ Renamed → ⊥
   mod-ren e = cc
+
   new-ren : Created ≡ Renamed → ⊥
   new-ren e = cc
 
@@ -300,6 +310,7 @@ module _ {B : Type 0} (from to : Tree B) (is : IsPair from to) where
       by-above : (o : Option (Names × Node B)) → created_in (q, m) o ≡ Some one → HasNode one
       by-above None h = absurd (none_some h)
       by-above (Some dir) h = λ t k _. absurd (new-ren (ap (λ (x : Line). x.kind) (same_some h) ∙ k))
+
       by-old : (o : Option (Names × Node B)) → created_by from to (q, m) o ≡ Some one → HasNode one
       by-old None h = by-above (place_above from (id_above to q)) h
       by-old (Some old) h = absurd (none_some h)
@@ -315,9 +326,9 @@ module _ {B : Type 0} (from to : Tree B) (is : IsPair from to) where
   new-is-found listings listed ordered all q m at new = by_last (λ q. node_at to q ≡ Some m → IsIn (all_news lines listings) (item_at q m)) q
       (λ at. absurd (none_some (sym new ∙ place_of-here from is.from_tree [] is.from_root m.id is.from_at (ap (λ (x : Node B). x.id.0) (sym (same_some (sym is.to_at ∙ at))) ∙ sym is.same_root))))
       (λ t n at. let d : (dir : Node B) × (node_at to t ≡ Some dir) × (is_dir dir ≡ true) = dir-above to is.to_tree t n m at in by_one (place_of from d.0.id)
-        (λ old was. grown-keeps listings (first_news lines) (item_at (t ++ n ∷ []) m) (by-line t n m d.0 old at d.1 new was))
-        (λ gone. let one : (one : Listing) × IsIn listings one × (d.0.id.0 ≡ one.dir.0) = all t d.0 d.1 gone d.2 in
-          by-listing listings (first_news lines) one.0 t n m d.0 one.1 listed (first-sound lines lines-tell) ordered at d.1 one.2 (no-line m.id new)))
+      (λ old was. grown-keeps listings (first_news lines) (item_at (t ++ n ∷ []) m) (by-line t n m d.0 old at d.1 new was))
+      (λ gone. let one : (one : Listing) × IsIn listings one × (d.0.id.0 ≡ one.dir.0) = all t d.0 d.1 gone d.2 in
+      by-listing listings (first_news lines) one.0 t n m d.0 one.1 listed (first-sound lines lines-tell) ordered at d.1 one.2 (no-line m.id new)))
       at
     where
       no-line : (id : InodeId) → place_of from id ≡ None → renames_id lines id ≡ false

@@ -114,21 +114,22 @@ split [] p h = absurd (true_false h refl)
 split (a ∷ others) p h = by (same_path a p)
     (λ t. ([], others, ap (λ (x : Names). x ∷ others) (sym (same-so a p t)), ap (λ b. cond b 0 (index_of others p + 1)) t))
     (λ f. let next : (before : List Names) × (after : List Names) × (others ≡ before ++ p ∷ after) × (index_of others p ≡ length before) = split others p (ap (λ b. b || is_in others p) (sym f) ∙ h) in
-      (a ∷ next.0, next.1, ap (λ (x : List Names). a ∷ x) next.2, ap (λ b. cond b 0 (index_of others p + 1)) f ∙ (let e : index_of others p ≡ length next.0 = next.3 in omega arith)))
+    (a ∷ next.0, next.1, ap (λ (x : List Names). a ∷ x) next.2, ap (λ b. cond b 0 (index_of others p + 1)) f ∙ (let e : index_of others p ≡ length next.0 = next.3 in omega arith)))
 
 pub index-once : (paths : List Names) (p q : Names) → is_in paths p ≡ true → is_in paths q ≡ true → index_of paths p ≡ index_of paths q → p ≡ q
 index-once [] p q h k e = absurd (true_false h refl)
 index-once (a ∷ others) p q h k e = by (same_path a p)
     (λ t. by (same_path a q)
-      (λ u. same-so a p t ∙ sym (same-so a q u))
-      (λ v. absurd (later (index_of others q) (sym (ap (λ b. cond b 0 (index_of others p + 1)) t) ∙ e ∙ ap (λ b. cond b 0 (index_of others q + 1)) v))))
+    (λ u. same-so a p t ∙ sym (same-so a q u))
+    (λ v. absurd (later (index_of others q) (sym (ap (λ b. cond b 0 (index_of others p + 1)) t) ∙ e ∙ ap (λ b. cond b 0 (index_of others q + 1)) v))))
     (λ f. by (same_path a q)
-      (λ u. absurd (later (index_of others p) (sym (ap (λ b. cond b 0 (index_of others q + 1)) u) ∙ sym e ∙ ap (λ b. cond b 0 (index_of others p + 1)) f)))
-      (λ v. index-once others p q (ap (λ b. b || is_in others p) (sym f) ∙ h) (ap (λ b. b || is_in others q) (sym v) ∙ k)
-        (one-less (index_of others p) (index_of others q) (sym (ap (λ b. cond b 0 (index_of others p + 1)) f) ∙ e ∙ ap (λ b. cond b 0 (index_of others q + 1)) v))))
+    (λ u. absurd (later (index_of others p) (sym (ap (λ b. cond b 0 (index_of others q + 1)) u) ∙ sym e ∙ ap (λ b. cond b 0 (index_of others p + 1)) f)))
+    (λ v. index-once others p q (ap (λ b. b || is_in others p) (sym f) ∙ h) (ap (λ b. b || is_in others q) (sym v) ∙ k)
+    (one-less (index_of others p) (index_of others q) (sym (ap (λ b. cond b 0 (index_of others p + 1)) f) ∙ e ∙ ap (λ b. cond b 0 (index_of others q + 1)) v))))
   where
     later : (n : ℕ) → 0 ≡ n + 1 → ⊥
     later n h = omega arith
+
     one-less : (n m : ℕ) → n + 1 ≡ m + 1 → n ≡ m
     one-less n m h = omega arith
 
@@ -148,8 +149,10 @@ before-none (n ∷ x) (m ∷ y) h = rest-step m n y x ∙
   where
     less-equal : Less ≡ Equal → ⊥
     less-equal e = cc
+
     none : Option Names
     none = None
+
     both-none : (b : Bool) → cond b none none ≡ none
     both-none true = refl
     both-none false = refl

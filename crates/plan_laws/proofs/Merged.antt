@@ -1,17 +1,15 @@
 -- A merging of the calls of copies, told by the numbers of their lists, is one told by paths.
-use Rattle.std.proofs.Common.{◌≡◌, ℕ, zero, suc, ◌+◌, ◌<◌, ◌≤◌, ◌==◌, Bool, true, false, cond, Option, Some, None, List, [], ◌∷◌, ◌++◌, map, length, take, drop, refl, ap, sym, subst, ◌∙◌, arith}
+use Rattle.std.proofs.Common.{◌≡◌, ℕ, zero, suc, ◌<◌, ◌≤◌, ◌==◌, true, false, cond, Some, List, [], ◌∷◌, ◌++◌, map, length, take, drop, refl, ap, sym, subst, ◌∙◌, arith}
 use Rattle.std.specs.Prelude.{slice_get}
 use Rattle.std.specs.List.{filter, AllByRecursion}
-use Rattle.std.specs.Option.{unwrap_or, option_map}
-use Rattle.std.proofs.lemmas.Bool.Decides.{Decides-eqb, nat_tests}
-use Rattle.std.proofs.lemmas.Option.{slice_get-map}
+use Rattle.std.proofs.lemmas.Bool.Decides.{Decides-eqb}
 use Rattle.std.proofs.lemmas.List.{take-append-drop}
 use Rattle.hs_types.specs.Names.{Names}
 use Rattle.hs_types.specs.Limits.{block_size}
 use Rattle.hs_plain.specs.Tree.{same_path}
 use Rattle.hs_plain.specs.Plan.{numbered_so, pages_of}
-use Rattle.hs_plain.proofs.ValidShapes.{none_some, same_some, true_false}
-use Rattle.plan_laws.specs.Copies.{CopyCall, Create, Append, path_of_call, is_at, joined, appends, copy_calls}
+use Rattle.hs_plain.proofs.ValidShapes.{same_some, true_false}
+use Rattle.plan_laws.specs.Copies.{CopyCall, path_of_call, is_at, joined}
 use Rattle.plan_laws.proofs.Paths.{by}
 use Rattle.plan_laws.proofs.Lists.{same-so, same-here}
 
@@ -55,16 +53,16 @@ module _ {A C : Type 0} (f : A → C) where
   mapped [] lists all = record { calls = []; same = refl; each = λ n. no-more (lists n) (all n) }
   mapped (pair ∷ pairs) lists all =
       let head : (a : A) × (lists pair.0 ≡ a ∷ drop 1 (lists pair.0)) × (f a ≡ pair.1) =
-            head-of (lists pair.0) pair.1 (numbered_so pair.0 pairs) (sym (ap (λ b. cond b (pair.1 ∷ numbered_so pair.0 pairs) (numbered_so pair.0 pairs)) (same_number pair.0)) ∙ all pair.0) in
+      head-of (lists pair.0) pair.1 (numbered_so pair.0 pairs) (sym (ap (λ b. cond b (pair.1 ∷ numbered_so pair.0 pairs) (numbered_so pair.0 pairs)) (same_number pair.0)) ∙ all pair.0) in
       let rest : IsMapped pairs (less pair.0 lists) = mapped pairs (less pair.0 lists) (λ n. left n) in
       record {
         calls = (pair.0, head.0) ∷ rest.calls;
         same = λ i. head.2 i ∷ rest.same i;
         each = λ n. by (pair.0 == n)
             (λ t. let same : pair.0 ≡ n = (Decides-eqb pair.0 n).0 t in
-              ap (λ b. cond b (head.0 ∷ numbered_so n rest.calls) (numbered_so n rest.calls)) t
-              ∙ ap (λ xs. head.0 ∷ xs) (rest.each n ∙ ap (λ b. cond b (drop 1 (lists n)) (lists n)) t)
-              ∙ ap (λ k. head.0 ∷ drop 1 (lists k)) (sym same) ∙ sym head.1 ∙ ap lists same)
+            ap (λ b. cond b (head.0 ∷ numbered_so n rest.calls) (numbered_so n rest.calls)) t
+            ∙ ap (λ xs. head.0 ∷ xs) (rest.each n ∙ ap (λ b. cond b (drop 1 (lists n)) (lists n)) t)
+            ∙ ap (λ k. head.0 ∷ drop 1 (lists k)) (sym same) ∙ sym head.1 ∙ ap lists same)
             (λ t. ap (λ b. cond b (head.0 ∷ numbered_so n rest.calls) (numbered_so n rest.calls)) t ∙ rest.each n ∙ ap (λ b. cond b (drop 1 (lists n)) (lists n)) t);
       }
     where
@@ -83,12 +81,13 @@ module _ (paths : List Names) where
 
   pub all-at : (calls : List (ℕ × CopyCall)) → ((n : ℕ) → AllByRecursion (λ call. slice_get paths n ≡ Some (path_of_call call)) (numbered_so n calls)) → AreAt calls
   all-at [] each = tt
-  all-at (pair ∷ pairs) each =
-      ((subst (λ b. AllByRecursion (λ call. slice_get paths pair.0 ≡ Some (path_of_call call)) (cond b (pair.1 ∷ numbered_so pair.0 pairs) (numbered_so pair.0 pairs))) (same_number pair.0) (each pair.0)).0,
-       all-at pairs (λ n. (elim (pair.0 == n) as (λ b. AllByRecursion (λ call. slice_get paths n ≡ Some (path_of_call call)) (cond b (pair.1 ∷ numbered_so n pairs) (numbered_so n pairs)) → AllByRecursion (λ call. slice_get paths n ≡ Some (path_of_call call)) (numbered_so n pairs)) [
-         | true ↦ λ h. h.1
-         | false ↦ λ h. h
-       ]) (each n)))
+  all-at (pair ∷ pairs) each = (
+    (subst (λ b. AllByRecursion (λ call. slice_get paths pair.0 ≡ Some (path_of_call call)) (cond b (pair.1 ∷ numbered_so pair.0 pairs) (numbered_so pair.0 pairs))) (same_number pair.0) (each pair.0)).0,
+    all-at pairs (λ n. (elim (pair.0 == n) as (λ b. AllByRecursion (λ call. slice_get paths n ≡ Some (path_of_call call)) (cond b (pair.1 ∷ numbered_so n pairs) (numbered_so n pairs)) → AllByRecursion (λ call. slice_get paths n ≡ Some (path_of_call call)) (numbered_so n pairs)) [
+      | true ↦ λ h. h.1
+      | false ↦ λ h. h
+    ]) (each n)),
+  )
 
   abbrev calls_of : List (ℕ × CopyCall) → List CopyCall
   calls_of calls = map (λ pair. pair.1) calls
@@ -99,20 +98,20 @@ module _ (paths : List Names) where
   at-number once k path there [] at = refl
   at-number once k path there (pair ∷ pairs) at = by (pair.0 == k)
       (λ t. let same : path_of_call pair.1 ≡ path = same_some (sym at.0 ∙ ap (slice_get paths) ((Decides-eqb pair.0 k).0 t) ∙ there) in
-        ap (λ b. cond b (pair.1 ∷ filter (is_at path) (calls_of pairs)) (filter (is_at path) (calls_of pairs))) (ap (same_path (path_of_call pair.1)) (sym same) ∙ same-here (path_of_call pair.1))
-        ∙ ap (λ xs. pair.1 ∷ xs) (at-number once k path there pairs at.1)
-        ∙ sym (ap (λ b. cond b (pair.1 ∷ numbered_so k pairs) (numbered_so k pairs)) t))
+      ap (λ b. cond b (pair.1 ∷ filter (is_at path) (calls_of pairs)) (filter (is_at path) (calls_of pairs))) (ap (same_path (path_of_call pair.1)) (sym same) ∙ same-here (path_of_call pair.1))
+      ∙ ap (λ xs. pair.1 ∷ xs) (at-number once k path there pairs at.1)
+      ∙ sym (ap (λ b. cond b (pair.1 ∷ numbered_so k pairs) (numbered_so k pairs)) t))
       (λ t. ap (λ b. cond b (pair.1 ∷ filter (is_at path) (calls_of pairs)) (filter (is_at path) (calls_of pairs)))
-          (by (is_at path pair.1) (λ s. absurd (true_false ((Decides-eqb pair.0 k).1 (once pair.0 k path (at.0 ∙ ap (λ (p : Names). Some p) (sym (same-so (path_of_call pair.1) path s))) there)) t)) (λ f. f))
-        ∙ at-number once k path there pairs at.1
-        ∙ sym (ap (λ b. cond b (pair.1 ∷ numbered_so k pairs) (numbered_so k pairs)) t))
+      (by (is_at path pair.1) (λ s. absurd (true_false ((Decides-eqb pair.0 k).1 (once pair.0 k path (at.0 ∙ ap (λ (p : Names). Some p) (sym (same-so (path_of_call pair.1) path s))) there)) t)) (λ f. f))
+      ∙ at-number once k path there pairs at.1
+      ∙ sym (ap (λ b. cond b (pair.1 ∷ numbered_so k pairs) (numbered_so k pairs)) t))
 
   -- at another path there are none
   pub at-none : (path : Names) → ((k : ℕ) → slice_get paths k ≡ Some path → ⊥) → (calls : List (ℕ × CopyCall)) → AreAt calls → filter (is_at path) (map (λ pair. pair.1) calls) ≡ []
   at-none path missing [] at = refl
   at-none path missing (pair ∷ pairs) at =
       ap (λ b. cond b (pair.1 ∷ filter (is_at path) (calls_of pairs)) (filter (is_at path) (calls_of pairs)))
-        (by (is_at path pair.1) (λ s. absurd (missing pair.0 (at.0 ∙ ap (λ (p : Names). Some p) (sym (same-so (path_of_call pair.1) path s))))) (λ f. f))
+      (by (is_at path pair.1) (λ s. absurd (missing pair.0 (at.0 ∙ ap (λ (p : Names). Some p) (sym (same-so (path_of_call pair.1) path s))))) (λ f. f))
       ∙ at-none path missing pairs at.1
 
 -- ---- pages
@@ -137,6 +136,7 @@ joined-pages (suc most) (byte ∷ bytes) le =
       where
         step : (a b : ℕ) → a ≤ b → a ≤ suc b
         step a b le = omega arith
+
     shorter : (bytes : List ℕ) → suc (length bytes) ≤ suc most → length (drop 65535 bytes) ≤ most
     shorter bytes le = let rest : length (drop 65535 bytes) ≤ length bytes = drop-le 65535 bytes in chain (length (drop 65535 bytes)) (length bytes) most rest le
       where

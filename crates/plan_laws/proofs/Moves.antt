@@ -48,7 +48,7 @@ module _ {B : Type 0} where
   rises-filter test (e ∷ es) h =
       let rest : Rises (map path_of_place (filter test es)) = rises-filter test es (second (below_all path_cmp e.0 es) _ h) in
       let above : AllByRecursion (λ later. rest_below later e.0 ≡ None) (map path_of_place (filter test es)) = each-filter (λ later. rest_below later e.0 ≡ None) test es (second (below_all path_cmp e.0 es) _ h)
-          (λ q m at _. before-none e.0 q (below-so e.0 es q m (first (below_all path_cmp e.0 es) _ h) at)) in
+      (λ q m at _. before-none e.0 q (below-so e.0 es q m (first (below_all path_cmp e.0 es) _ h) at)) in
       elim (test e) as (λ b. Rises (map path_of_place (cond b (e ∷ filter test es) (filter test es)))) [
         | true ↦ (above, rest)
         | false ↦ rest
@@ -74,8 +74,8 @@ module _ {B : Type 0} where
     rises-targets land (e ∷ es) h =
         let rest : Rises (targets (filter_map f es)) = rises-targets land es (second (below_all path_cmp e.0 es) _ h) in
         let above : AllByRecursion (λ later. rest_below later e.0 ≡ None) (targets (filter_map f es)) = each-target (λ later. rest_below later e.0 ≡ None) (filter_map f es)
-            (each-put (λ put. rest_below (target put) e.0 ≡ None) es (second (below_all path_cmp e.0 es) _ h)
-            (λ q m put at is. ap (λ (x : Names). rest_below x e.0) (land q m put is) ∙ before-none e.0 q (below-so e.0 es q m (first (below_all path_cmp e.0 es) _ h) at))) in
+        (each-put (λ put. rest_below (target put) e.0 ≡ None) es (second (below_all path_cmp e.0 es) _ h)
+        (λ q m put at is. ap (λ (x : Names). rest_below x e.0) (land q m put is) ∙ before-none e.0 q (below-so e.0 es q m (first (below_all path_cmp e.0 es) _ h) at))) in
         (elim (f e) as (λ o. f e ≡ o → Rises (targets (cons_option o (filter_map f es)))) [
           | None ↦ λ t. rest
           | Some put ↦ λ t. (subst (λ (x : Names). AllByRecursion (λ later. rest_below later x ≡ None) (targets (filter_map f es))) (sym (land e.0 e.1 put t)) above, rest)
@@ -86,14 +86,14 @@ module _ {B : Type 0} where
   linked all before (put ∷ ps) e rises =
       let there : Rises (before ++ target put ∷ targets ps) = subst Rises e rises in
       let later : AllByRecursion (λ later. rest_below later (target put) ≡ None) (targets ps) = pairwise-after (λ path later. rest_below later path ≡ None) before (target put) (targets ps) there in
-      let earlier : AllByRecursion (λ path. rest_below (target put) path ≡ None) before = pairwise-before (λ path later. rest_below later path ≡ None) before (target put) (targets ps) there in
-      (later,
-       (λ r. hits-right before (target put) (targets ps) r earlier later ∙ ap (λ (paths : List Names). cuts (λ x. is_in paths (target put ++ x)) r) (sym e)),
-       linked all (before ++ target put ∷ []) ps (e ∙ sym (append_assoc before (target put ∷ []) (targets ps))) rises)
+      let earlier : AllByRecursion (λ path. rest_below (target put) path ≡ None) before = pairwise-before (λ path later. rest_below later path ≡ None) before (target put) (targets ps) there in (
+        later,
+        (λ r. hits-right before (target put) (targets ps) r earlier later ∙ ap (λ (paths : List Names). cuts (λ x. is_in paths (target put ++ x)) r) (sym e)),
+        linked all (before ++ target put ∷ []) ps (e ∙ sym (append_assoc before (target put ∷ []) (targets ps))) rises,
+      )
 
 module _ {B : Type 0} (from to : Tree B) (is : IsPair from to) (tmp : List ℕ) (number : ℕ → List ℕ) (once : (i j : ℕ) → number i ≡ number j → i ≡ j) (top : Node B) (top_dir : is_dir top ≡ true)
-  (from_free : node_at from (tmp ∷ []) ≡ None) (to_free : node_at to (tmp ∷ []) ≡ None) where
-
+    (from_free : node_at from (tmp ∷ []) ≡ None) (to_free : node_at to (tmp ∷ []) ≡ None) where
   -- the first tree with tmp
   abbrev pub begun : Sight (Node B)
   begun = made_sight (node_at from) (tmp ∷ []) top
@@ -151,21 +151,25 @@ module _ {B : Type 0} (from to : Tree B) (is : IsPair from to) (tmp : List ℕ) 
   pub outs-stand : Stands (Alike from) (old_sight from to) tmp outs_over (targets (placings from to))
   outs-stand q out = both-at (Alike from)
       (outs-outside tmp number once (outs from to) begun 0 q out ∙ ap (unless (hits (outs from to) q)) (begun-outside q out)
-       ∙ ap (λ b. unless b (node_at from q)) (hits-cuts (outs from to) [] q (each-out (λ p. rest_below p [] ≡ None) (λ p x at go. not-below p (goes-below p x at go)))))
+      ∙ ap (λ b. unless b (node_at from q)) (hits-cuts (outs from to) [] q (each-out (λ p. rest_below p [] ≡ None) (λ p x at go. not-below p (goes-below p x at go)))))
       (ap (λ b. unless b (old_sight from to q)) (hits-cuts (targets (placings from to)) [] q (no-root (placings from to))))
       (alike-below (Alike from) (node_at from) (old_sight from to) (is_in (outs from to)) (is_in (targets (placings from to))) (differ from to is) q [] [] is.from_root is.to_root is.from_at root_old root_alike)
     where
       not-below : (p : Names) → (p ≡ [] → ⊥) → rest_below p [] ≡ None
       not-below [] below = absurd (below refl)
       not-below (n ∷ p) below = refl
+
       no-root : (ps : List (Placing (Node B))) → AllByRecursion (λ p. rest_below p [] ≡ None) (targets ps)
       no-root [] = tt
       no-root (Back i above name ∷ ps) = (not-below (above ++ name ∷ []) (not_last above name), no-root ps)
       no-root (New node above name ∷ ps) = (not-below (above ++ name ∷ []) (not_last above name), no-root ps)
+
       root_alike : Alike from is.from_root is.to_root
       root_alike = alike-so from to is [] [] is.from_root is.to_root is.from_at is.to_at is.same_root
+
       root_there : place_of from is.to_root.id ≡ Some ([], is.from_root)
       root_there = place_of-here from is.from_tree [] is.from_root is.to_root.id is.from_at (sym is.same_root)
+
       root_old : old_sight from to [] ≡ Some is.to_root
       root_old = dir-old from to is [] is.to_root is.to_at (or_some (is_dir is.to_root) (is_some (place_of from is.to_root.id)) (ap is_some root_there))
         where
@@ -181,17 +185,17 @@ module _ {B : Type 0} (from to : Tree B) (is : IsPair from to) (tmp : List ℕ) 
       ((above : Names) (name : List ℕ) → q ≡ above ++ name ∷ [] → place_of from m.id ≡ None → is_dir m ≡ true → put ≡ New m (parent_of q) (last_of q) → P) → P
   put-parts {P} q m put h back new = by_last
       (λ q. placing_at from to (q, m) ≡ Some put →
-        ((above : Names) (name : List ℕ) (old : Names × Node B) → q ≡ above ++ name ∷ [] → place_of from m.id ≡ Some old → same_place from to old.0 q ≡ false → put ≡ Back (index_of (outs from to) old.0) (parent_of q) (last_of q) → P) →
-        ((above : Names) (name : List ℕ) → q ≡ above ++ name ∷ [] → place_of from m.id ≡ None → is_dir m ≡ true → put ≡ New m (parent_of q) (last_of q) → P) → P)
+      ((above : Names) (name : List ℕ) (old : Names × Node B) → q ≡ above ++ name ∷ [] → place_of from m.id ≡ Some old → same_place from to old.0 q ≡ false → put ≡ Back (index_of (outs from to) old.0) (parent_of q) (last_of q) → P) →
+      ((above : Names) (name : List ℕ) → q ≡ above ++ name ∷ [] → place_of from m.id ≡ None → is_dir m ≡ true → put ≡ New m (parent_of q) (last_of q) → P) → P)
       q
       (λ h back new. absurd (none_some h))
       (λ above name h back new. by_one (place_of from m.id)
-        (λ old at. by (same_place from to old.0 (above ++ name ∷ []))
-          (λ t. absurd (none_some (sym (ap (λ b. cond b None (Some (Back (index_of (outs from to) old.0) (parent_of (above ++ name ∷ [])) (last_of (above ++ name ∷ []))))) t) ∙ sym (ap (placing_by from to (above ++ name ∷ [], m)) at) ∙ sym (put-by from to is above name m) ∙ h)))
-          (λ f. back above name old refl at f (same_some (sym h ∙ put-by from to is above name m ∙ ap (placing_by from to (above ++ name ∷ [], m)) at ∙ ap (λ b. cond b None (Some (Back (index_of (outs from to) old.0) (parent_of (above ++ name ∷ [])) (last_of (above ++ name ∷ []))))) f))))
-        (λ none. by (is_dir m)
-          (λ t. new above name refl none t (same_some (sym h ∙ put-by from to is above name m ∙ ap (placing_by from to (above ++ name ∷ [], m)) none ∙ ap (λ b. cond b (Some (New m (parent_of (above ++ name ∷ [])) (last_of (above ++ name ∷ [])))) None) t)))
-          (λ f. absurd (none_some (sym (ap (λ b. cond b (Some (New m (parent_of (above ++ name ∷ [])) (last_of (above ++ name ∷ [])))) None) f) ∙ sym (ap (placing_by from to (above ++ name ∷ [], m)) none) ∙ sym (put-by from to is above name m) ∙ h)))))
+      (λ old at. by (same_place from to old.0 (above ++ name ∷ []))
+      (λ t. absurd (none_some (sym (ap (λ b. cond b None (Some (Back (index_of (outs from to) old.0) (parent_of (above ++ name ∷ [])) (last_of (above ++ name ∷ []))))) t) ∙ sym (ap (placing_by from to (above ++ name ∷ [], m)) at) ∙ sym (put-by from to is above name m) ∙ h)))
+      (λ f. back above name old refl at f (same_some (sym h ∙ put-by from to is above name m ∙ ap (placing_by from to (above ++ name ∷ [], m)) at ∙ ap (λ b. cond b None (Some (Back (index_of (outs from to) old.0) (parent_of (above ++ name ∷ [])) (last_of (above ++ name ∷ []))))) f))))
+      (λ none. by (is_dir m)
+      (λ t. new above name refl none t (same_some (sym h ∙ put-by from to is above name m ∙ ap (placing_by from to (above ++ name ∷ [], m)) none ∙ ap (λ b. cond b (Some (New m (parent_of (above ++ name ∷ [])) (last_of (above ++ name ∷ [])))) None) t)))
+      (λ f. absurd (none_some (sym (ap (λ b. cond b (Some (New m (parent_of (above ++ name ∷ [])) (last_of (above ++ name ∷ [])))) None) f) ∙ sym (ap (placing_by from to (above ++ name ∷ [], m)) none) ∙ sym (put-by from to is above name m) ∙ h)))))
       h back new
 
   abbrev IsReady : Placing (Node B) → Type 0
@@ -219,9 +223,11 @@ module _ {B : Type 0} (from to : Tree B) (is : IsPair from to) (tmp : List ℕ) 
       each-middle : (xs : List Names) (x : Names) (ys : List Names) → AllByRecursion (IsOutside tmp) (xs ++ x ∷ ys) → IsOutside tmp x
       each-middle [] x ys h = h.0
       each-middle (z ∷ zs) x ys h = each-middle zs x ys h.1
+
       each-front : (xs : List Names) (x : Names) (ys : List Names) → AllByRecursion (IsOutside tmp) (xs ++ x ∷ ys) → AllByRecursion (IsOutside tmp) xs
       each-front [] x ys h = tt
       each-front (z ∷ zs) x ys h = (h.0, each-front zs x ys h.1)
+
       each-back : (xs : List Names) (x : Names) (ys : List Names) → AllByRecursion (IsOutside tmp) (xs ++ x ∷ ys) → AllByRecursion (IsOutside tmp) ys
       each-back [] x ys h = h.1
       each-back (z ∷ zs) x ys h = each-back zs x ys h.1
@@ -233,25 +239,31 @@ module _ {B : Type 0} (from to : Tree B) (is : IsPair from to) (tmp : List ℕ) 
   ready-one : (q : Names) (m : Node B) (put : Placing (Node B)) → node_at to q ≡ Some m → placing_at from to (q, m) ≡ Some put → IsReady put
   ready-one q m put at h = put-parts q m put h
       (λ above name old e from_at moves is_put.
-        let so : (node_at from old.0 ≡ Some old.1) × (old.1.id.0 ≡ m.id.0) = place_of-so from m.id old is.from_tree.sorted from_at in
-        subst IsReady (sym is_put)
-        (old.0, old.1, m, so.0,
-         ap (old_sight from to) (lands-at q m put (Back (index_of (outs from to) old.0) (parent_of q) (last_of q)) h is_put) ∙ dir-old from to is q m at (or_some (is_dir m) (is_some (place_of from m.id)) (ap is_some from_at)),
-         alike-so from to is old.0 q old.1 m so.0 at so.1,
-         held old.0 (went-out q m old at from_at moves)))
-      (λ above name e none dir is_put. subst IsReady (sym is_put)
-        (ap (old_sight from to) (lands-at q m put (New m (parent_of q) (last_of q)) h is_put) ∙ dir-old from to is q m at (ap (λ b. b || is_some (place_of from m.id)) dir),
-         alike-itself from to is m,
-         (λ n. subst (λ (t : Names). old_sight from to (t ++ n ∷ []) ≡ None ⊎ is_in (targets (placings from to)) (t ++ n ∷ []) ≡ true) (sym (lands-at q m put (New m (parent_of q) (last_of q)) h is_put)) (in_new q m at none n))))
+      let so : (node_at from old.0 ≡ Some old.1) × (old.1.id.0 ≡ m.id.0) = place_of-so from m.id old is.from_tree.sorted from_at in
+      subst IsReady (sym is_put) (
+        old.0,
+        old.1,
+        m,
+        so.0,
+        ap (old_sight from to) (lands-at q m put (Back (index_of (outs from to) old.0) (parent_of q) (last_of q)) h is_put) ∙ dir-old from to is q m at (or_some (is_dir m) (is_some (place_of from m.id)) (ap is_some from_at)),
+        alike-so from to is old.0 q old.1 m so.0 at so.1,
+        held old.0 (went-out q m old at from_at moves),
+      ))
+      (λ above name e none dir is_put. subst IsReady (sym is_put) (
+        ap (old_sight from to) (lands-at q m put (New m (parent_of q) (last_of q)) h is_put) ∙ dir-old from to is q m at (ap (λ b. b || is_some (place_of from m.id)) dir),
+        alike-itself from to is m,
+        (λ n. subst (λ (t : Names). old_sight from to (t ++ n ∷ []) ≡ None ⊎ is_in (targets (placings from to)) (t ++ n ∷ []) ≡ true) (sym (lands-at q m put (New m (parent_of q) (last_of q)) h is_put)) (in_new q m at none n)),
+      ))
     where
       or_some : (a b : Bool) → b ≡ true → (a || b) ≡ true
       or_some true b h = refl
       or_some false b h = h
+
       in_new : (q : Names) (m : Node B) → node_at to q ≡ Some m → place_of from m.id ≡ None → (n : List ℕ) → (old_sight from to (q ++ n ∷ []) ≡ None ⊎ is_in (targets (placings from to)) (q ++ n ∷ []) ≡ true)
       in_new q m at none n = by_one (node_at to (q ++ n ∷ []))
           (λ c c_at. by (is_old from to is c)
-            (λ t. inr (comes from to is q n c c_at t (λ old h. same_place_new from to is q n m c old at none c_at h)))
-            (λ f. inl (ap (if_old from) c_at ∙ ap (λ b. cond b (Some c) None) f)))
+          (λ t. inr (comes from to is q n c c_at t (λ old h. same_place_new from to is q n m c old at none c_at h)))
+          (λ f. inl (ap (if_old from) c_at ∙ ap (λ b. cond b (Some c) None) f)))
           (λ gone. inl (ap (if_old from) gone))
 
   all-ready : AllByRecursion IsReady (placings from to)
@@ -260,8 +272,8 @@ module _ {B : Type 0} (from to : Tree B) (is : IsPair from to) (tmp : List ℕ) 
   pub targets-outside : AllByRecursion (IsOutside tmp) (targets (placings from to))
   targets-outside = each-target (placing_at from to) (IsOutside tmp) (placings from to) (each-put (placing_at from to) (λ put. IsOutside tmp (target put)) to is.to_tree.sorted
       (λ q m put at h. put-parts q m put h
-        (λ above name old e from_at moves is_put. in_place q m put at h above name e)
-        (λ above name e none dir is_put. in_place q m put at h above name e)))
+      (λ above name old e from_at moves is_put. in_place q m put at h above name e)
+      (λ above name e none dir is_put. in_place q m put at h above name e)))
     where
       in_place : (q : Names) (m : Node B) (put : Placing (Node B)) → node_at to q ≡ Some m → placing_at from to (q, m) ≡ Some put → (above : Names) (name : List ℕ) → q ≡ above ++ name ∷ [] → IsOutside tmp (target put)
       in_place q m put at h above name e = subst (IsOutside tmp) (sym e ∙ sym (lands from to is q m put h)) (outside to is.to_tree to_free above name m (ap (node_at to) (sym e) ∙ at))
@@ -277,14 +289,14 @@ module _ {B : Type 0} (from to : Tree B) (is : IsPair from to) (tmp : List ℕ) 
   same-number : (q t : Names) (m n : Node B) (put other : Placing (Node B)) (i : ℕ) → node_at to q ≡ Some m → node_at to t ≡ Some n → placing_at from to (q, m) ≡ Some put → placing_at from to (t, n) ≡ Some other → IsBackAt i put → IsBackAt i other → q ≡ t
   same-number q t m n put other i at bt h k is_i is_j = put-parts q m put h
       (λ above name old e from_at moves is_put. put-parts t n other k
-        (λ above2 name2 old2 e2 from_bt moves2 is_put2.
-          let one : (node_at from old.0 ≡ Some old.1) × (old.1.id.0 ≡ m.id.0) = place_of-so from m.id old is.from_tree.sorted from_at in
-          let two : (node_at from old2.0 ≡ Some old2.1) × (old2.1.id.0 ≡ n.id.0) = place_of-so from n.id old2 is.from_tree.sorted from_bt in
-          let path : old.0 ≡ old2.0 = index-once (outs from to) old.0 old2.0 (went-out q m old at from_at moves) (went-out t n old2 bt from_bt moves2)
-              (sym (subst (IsBackAt i) is_put is_i) ∙ subst (IsBackAt i) is_put2 is_j) in
-          let node : old.1 ≡ old2.1 = same_some (sym one.0 ∙ ap (node_at from) path ∙ two.0) in
-          one_place to is.to_tree.each_once q t m n at bt (sym one.1 ∙ ap (λ (x : Node B). x.id.0) node ∙ two.1))
-        (λ above2 name2 e2 none dir is_put2. absurd (subst (IsBackAt i) is_put2 is_j)))
+      (λ above2 name2 old2 e2 from_bt moves2 is_put2.
+      let one : (node_at from old.0 ≡ Some old.1) × (old.1.id.0 ≡ m.id.0) = place_of-so from m.id old is.from_tree.sorted from_at in
+      let two : (node_at from old2.0 ≡ Some old2.1) × (old2.1.id.0 ≡ n.id.0) = place_of-so from n.id old2 is.from_tree.sorted from_bt in
+      let path : old.0 ≡ old2.0 = index-once (outs from to) old.0 old2.0 (went-out q m old at from_at moves) (went-out t n old2 bt from_bt moves2)
+      (sym (subst (IsBackAt i) is_put is_i) ∙ subst (IsBackAt i) is_put2 is_j) in
+      let node : old.1 ≡ old2.1 = same_some (sym one.0 ∙ ap (node_at from) path ∙ two.0) in
+      one_place to is.to_tree.each_once q t m n at bt (sym one.1 ∙ ap (λ (x : Node B). x.id.0) node ∙ two.1))
+      (λ above2 name2 e2 none dir is_put2. absurd (subst (IsBackAt i) is_put2 is_j)))
       (λ above name e none dir is_put. absurd (subst (IsBackAt i) is_put is_i))
 
   number-once : (tree : Tree B) → is_sorted path_cmp tree ≡ true → ((q : Names) (m : Node B) → node_at tree q ≡ Some m → node_at to q ≡ Some m) → NumberOnce (filter_map (placing_at from to) tree)
@@ -302,6 +314,7 @@ module _ {B : Type 0} (from to : Tree B) (is : IsPair from to) (tmp : List ℕ) 
       not-again : (i : ℕ) (other : Placing (Node B)) → (IsBackAt i other → ⊥) → IsOther i other
       not-again i (Back j above name) new = λ same. new (sym same)
       not-again i (New node above name) new = tt
+
       with-put : (put : Placing (Node B)) → NumberOnce (filter_map (placing_at from to) es) → ((i : ℕ) → IsBackAt i put → AllByRecursion (IsOther i) (filter_map (placing_at from to) es)) → NumberOnce (put ∷ filter_map (placing_at from to) es)
       with-put (Back i above name) rest others = (others i refl, rest)
       with-put (New node above name) rest others = rest

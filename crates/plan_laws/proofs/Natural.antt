@@ -68,15 +68,18 @@ module _ {X Y : Type 0} (f : X → Y) where
 
     pub outs-go-through : (tmp : List ℕ) (number : ℕ → List ℕ) (paths : List Names) (s : Sight X) (k : ℕ) → OutsGo is_dir tmp number s k paths → OutsGo is_dir_too tmp number (through s) k paths
     outs-go-through tmp number [] s k go = tt
-    outs-go-through tmp number (p ∷ ps) s k go =
-        (goes-through s p (tmp ∷ []) (number k) go.0,
-         subst (λ (t : Sight Y). OutsGo is_dir_too tmp number t (k + 1) ps) (moved-through s p (tmp ∷ number k ∷ [])) (outs-go-through tmp number ps (moved_sight s p (tmp ∷ number k ∷ [])) (k + 1) go.1))
+    outs-go-through tmp number (p ∷ ps) s k go = (
+      goes-through s p (tmp ∷ []) (number k) go.0,
+      subst (λ (t : Sight Y). OutsGo is_dir_too tmp number t (k + 1) ps) (moved-through s p (tmp ∷ number k ∷ [])) (outs-go-through tmp number ps (moved_sight s p (tmp ∷ number k ∷ [])) (k + 1) go.1),
+    )
 
     pub puts-go-through : (tmp : List ℕ) (number : ℕ → List ℕ) (puts : List (Placing X)) (s : Sight X) → PutsGo is_dir tmp number s puts → PutsGo is_dir_too tmp number (through s) (map (map_put f) puts)
     puts-go-through tmp number [] s go = tt
-    puts-go-through tmp number (Back i above name ∷ puts) s go =
-        (goes-through s (tmp ∷ number i ∷ []) above name go.0,
-         subst (λ (t : Sight Y). PutsGo is_dir_too tmp number t (map (map_put f) puts)) (moved-through s (tmp ∷ number i ∷ []) (above ++ name ∷ [])) (puts-go-through tmp number puts (moved_sight s (tmp ∷ number i ∷ []) (above ++ name ∷ [])) go.1))
-    puts-go-through tmp number (New node above name ∷ puts) s go =
-        (makes-through s above name go.0,
-         subst (λ (t : Sight Y). PutsGo is_dir_too tmp number t (map (map_put f) puts)) (made-through s (above ++ name ∷ []) node) (puts-go-through tmp number puts (made_sight s (above ++ name ∷ []) node) go.1))
+    puts-go-through tmp number (Back i above name ∷ puts) s go = (
+      goes-through s (tmp ∷ number i ∷ []) above name go.0,
+      subst (λ (t : Sight Y). PutsGo is_dir_too tmp number t (map (map_put f) puts)) (moved-through s (tmp ∷ number i ∷ []) (above ++ name ∷ [])) (puts-go-through tmp number puts (moved_sight s (tmp ∷ number i ∷ []) (above ++ name ∷ [])) go.1),
+    )
+    puts-go-through tmp number (New node above name ∷ puts) s go = (
+      makes-through s above name go.0,
+      subst (λ (t : Sight Y). PutsGo is_dir_too tmp number t (map (map_put f) puts)) (made-through s (above ++ name ∷ []) node) (puts-go-through tmp number puts (made_sight s (above ++ name ∷ []) node) go.1),
+    )

@@ -59,12 +59,13 @@ module _ {B : Type 0} (from to : Tree B) (is : IsPair from to) where
   pub created-at : (t : Names) (n : List ℕ) (m d x : Node B) (dp : Names) → node_at to (t ++ n ∷ []) ≡ Some m → node_at to t ≡ Some d → place_of from m.id ≡ None → place_of from d.id ≡ Some (dp, x) →
       (created from to (t ++ n ∷ [], m) ≡ Some (line_of Created (dp ++ n ∷ []) None m)) × (translate (report from to) dp ++ n ∷ [] ≡ t ++ n ∷ [])
   created-at t n m d x dp at there new old =
-      let so : (node_at from dp ≡ Some x) × (x.id.0 ≡ d.id.0) = place_of-so from d.id (dp, x) is.from_tree.sorted old in
-      (ap (created_by from to (t ++ n ∷ [], m)) new
-       ∙ ap (λ o. created_in (t ++ n ∷ [], m) (place_above from o)) (id_above-at to t n d there)
-       ∙ ap (created_in (t ++ n ∷ [], m)) old
-       ∙ ap (λ (name : List ℕ). Some (line_of Created (dp ++ name ∷ []) None m)) (last_of-last t n),
-       ap (λ (p : Names). p ++ n ∷ []) (translated from to is dp t x d so.0 there so.1))
+      let so : (node_at from dp ≡ Some x) × (x.id.0 ≡ d.id.0) = place_of-so from d.id (dp, x) is.from_tree.sorted old in (
+        ap (created_by from to (t ++ n ∷ [], m)) new
+            ∙ ap (λ o. created_in (t ++ n ∷ [], m) (place_above from o)) (id_above-at to t n d there)
+            ∙ ap (created_in (t ++ n ∷ [], m)) old
+            ∙ ap (λ (name : List ℕ). Some (line_of Created (dp ++ name ∷ []) None m)) (last_of-last t n),
+        ap (λ (p : Names). p ++ n ∷ []) (translated from to is dp t x d so.0 there so.1),
+      )
 
   -- a node that was there and stands in a new directory has a renaming line
   pub renamed-id : (t : Names) (n : List ℕ) (d c : Node B) (old : Names × Node B) → node_at to t ≡ Some d → place_of from d.id ≡ None → node_at to (t ++ n ∷ []) ≡ Some c → place_of from c.id ≡ Some old → renames_id (report from to) c.id ≡ true
@@ -72,9 +73,9 @@ module _ {B : Type 0} (from to : Tree B) (is : IsPair from to) where
       let so : (node_at from old.0 ≡ Some old.1) × (old.1.id.0 ≡ c.id.0) = place_of-so from c.id old is.from_tree.sorted h in
       id-with_lines (filter_map (created from to) to) (flat_map (lines_from from to) from) c.id
       (id-flat (lines_from from to) from old.0 old.1 c.id so.0
-        (ap (λ o. renames_id (lines_by from to old o) c.id) (place_of-here to is.to_tree (t ++ n ∷ []) c old.1.id at so.1)
-         ∙ ap (λ b. renames_id (line_if (not b) (line_of Renamed old.0 (Some (t ++ n ∷ [])) old.1) (line_if (not (old.1.stamp == c.stamp)) (line_of Modified old.0 None old.1) [])) c.id) (same_place_new from to is t n d c old there new at h)
-         ∙ ap (λ b. b || renames_id (line_if (not (old.1.stamp == c.stamp)) (line_of Modified old.0 None old.1) []) c.id) ((Decides-eqb old.1.id.0 c.id.0).1 so.1)))
+      (ap (λ o. renames_id (lines_by from to old o) c.id) (place_of-here to is.to_tree (t ++ n ∷ []) c old.1.id at so.1)
+      ∙ ap (λ b. renames_id (line_if (not b) (line_of Renamed old.0 (Some (t ++ n ∷ [])) old.1) (line_if (not (old.1.stamp == c.stamp)) (line_of Modified old.0 None old.1) [])) c.id) (same_place_new from to is t n d c old there new at h)
+      ∙ ap (λ b. b || renames_id (line_if (not (old.1.stamp == c.stamp)) (line_of Modified old.0 None old.1) []) c.id) ((Decides-eqb old.1.id.0 c.id.0).1 so.1)))
 
   -- and a node that wasn't there has none
   pub not-renamed : (id : InodeId) → place_of from id ≡ None → ((lines : List Line) → AllByRecursion (λ one. (t : Names) → one.kind ≡ Renamed → one.to ≡ Some t → (p : Names) × (x : Node B) × (node_at from p ≡ Some x) × (x.id.0 ≡ one.id.0)) lines → renames_id lines id ≡ false)

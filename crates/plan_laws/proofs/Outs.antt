@@ -74,15 +74,17 @@ module _ {X : Type 0} (tmp : List ℕ) (number : ℕ → List ℕ) (once : (i j 
     still-there : (s : Sight X) (k : ℕ) (p : Names) (paths : List Names) → AllByRecursion (IsOutside tmp) paths → AllByRecursion (λ later. rest_below p later ≡ None) paths →
         AllByRecursion (λ path. is_some (s path) ≡ true) paths → AllByRecursion (λ path. is_some (moved_sight s p (tmp ∷ number k ∷ []) path) ≡ true) paths
     still-there s k p [] out apart there = tt
-    still-there s k p (q ∷ qs) out apart there =
-        (ap is_some (ap (moved_sight s p (tmp ∷ number k ∷ [])) (sym (append-nil q)) ∙ moved-elsewhere s k p q [] out.0 ∙ ap (λ (x : Names). unless (is_at_or_below p x) (s x)) (append-nil q) ∙ ap (λ (o : Option Names). unless (is_some o) (s q)) apart.0) ∙ there.0,
-         still-there s k p qs out.1 apart.1 there.1)
+    still-there s k p (q ∷ qs) out apart there = (
+      ap is_some (ap (moved_sight s p (tmp ∷ number k ∷ [])) (sym (append-nil q)) ∙ moved-elsewhere s k p q [] out.0 ∙ ap (λ (x : Names). unless (is_at_or_below p x) (s x)) (append-nil q) ∙ ap (λ (o : Option Names). unless (is_some o) (s q)) apart.0) ∙ there.0,
+      still-there s k p qs out.1 apart.1 there.1,
+    )
 
     pub outs-go : (paths : List Names) (s : Sight X) (k : ℕ) → AllByRecursion (IsOutside tmp) paths → NoneBelow paths → AllByRecursion (λ path. is_some (s path) ≡ true) paths →
         ((node : X) × (s (tmp ∷ []) ≡ Some node) × (is_dir node ≡ true)) → ((j : ℕ) → k ≤ j → s (tmp ∷ number j ∷ []) ≡ None) → OutsGo is_dir tmp number s k paths
     outs-go [] s k out apart there top free = tt
-    outs-go (p ∷ ps) s k out apart there top free =
-        (record { there = there.0; above_dir = top; free = free k (omega arith) },
-         outs-go ps (moved_sight s p (tmp ∷ number k ∷ [])) (k + 1) out.1 apart.1 (still-there s k p ps out.1 apart.0 there.1)
-         (top.0, moved-top s k p out.0 ∙ top.1, top.2)
-         (λ j le. moved-kept s k j p [] out.0 (λ e. absurd (omega arith)) ∙ free j (omega arith)))
+    outs-go (p ∷ ps) s k out apart there top free = (
+      record { there = there.0; above_dir = top; free = free k (omega arith) },
+      outs-go ps (moved_sight s p (tmp ∷ number k ∷ [])) (k + 1) out.1 apart.1 (still-there s k p ps out.1 apart.0 there.1)
+          (top.0, moved-top s k p out.0 ∙ top.1, top.2)
+          (λ j le. moved-kept s k j p [] out.0 (λ e. absurd (omega arith)) ∙ free j (omega arith)),
+    )

@@ -1,5 +1,5 @@
 -- A directory's snapshots and its live subtree, in a valid state with steady stamps, are trees of one root.
-use Rattle.std.proofs.Common.{◌≡◌, inl, inr, ℕ, true, Option, Some, None, List, [], ◌∷◌, ◌++◌, refl, ap, sym, ◌∙◌, append-nil, append_assoc}
+use Rattle.std.proofs.Common.{◌≡◌, inl, inr, true, Option, Some, None, [], ◌∷◌, ◌++◌, refl, ap, sym, ◌∙◌, append-nil, append_assoc}
 use Rattle.std.specs.List.{Contains}
 use Rattle.std.specs.Option.{option_map}
 use Rattle.std.specs.FinMap.Entries.{is_sorted}
@@ -73,8 +73,10 @@ module _ {B : Type 0} (state : State B) (valid : IsValid state) (steady : HasSte
     where
       sorted : is_sorted path_cmp (subtree state.tree path) ≡ true
       sorted = sorted-subtree state.tree path valid.sorted
+
       seen : (q : Names) → shapes (subtree state.tree path) q ≡ shapes state.tree (path ++ q)
       seen q = ap (option_map shape) (node_at-subtree state.tree path q)
+
       here : shapes state.tree path ≡ Some (node.id.0, true)
       here = let d : (p : Names) × (shapes state.tree p ≡ Some (node.id.0, true)) = (live_dirs state valid).there node.id (listed_so state.snapshottable node.id listed) in
           ap (shapes state.tree) ((live_tree state valid).once path d.0 (shape node) (node.id.0, true) (ap (option_map shape) there) d.1 refl) ∙ d.1

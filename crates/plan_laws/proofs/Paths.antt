@@ -44,7 +44,7 @@ rest-so [] q r h = same_some h
 rest-so (n ∷ p) [] r h = absurd (none_some h)
 rest-so (n ∷ p) (m ∷ q) r h = by (bytes_eq n m)
     (λ t. let e : n ≡ m = (bytes_eq-Decides n m).0 t in
-      let f : q ≡ p ++ r = rest-so p q r (sym (ap (λ b. cond b (rest_below p q) None) t) ∙ sym (rest-step n m p q) ∙ h) in cc)
+    let f : q ≡ p ++ r = rest-so p q r (sym (ap (λ b. cond b (rest_below p q) None) t) ∙ sym (rest-step n m p q) ∙ h) in cc)
     (λ t. absurd (none_some (sym (ap (λ b. cond b (rest_below p q) None) t) ∙ sym (rest-step n m p q) ∙ h)))
 
 -- a path that isn't below another isn't either when it ends earlier

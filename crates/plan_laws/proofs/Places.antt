@@ -34,25 +34,25 @@ module _ {B : Type 0} where
   place_of-so [] id place h at = absurd (none_some at)
   place_of-so (e ∷ es) id place h at = by (same_inode e.1.id id)
       (λ t. let same : e ≡ place = same_some (ap (λ b. cond b (Some e) (place_of es id)) (sym t) ∙ at) in
-        subst (λ (x : Names × Node B). (node_at (e ∷ es) x.0 ≡ Some x.1) × (x.1.id.0 ≡ id.0)) same (head_at e es, (Decides-eqb e.1.id.0 id.0).0 t))
+      subst (λ (x : Names × Node B). (node_at (e ∷ es) x.0 ≡ Some x.1) × (x.1.id.0 ≡ id.0)) same (head_at e es, (Decides-eqb e.1.id.0 id.0).0 t))
       (λ f. let so : (node_at es place.0 ≡ Some place.1) × (place.1.id.0 ≡ id.0) = place_of-so es id place (second (below_all path_cmp e.0 es) _ h) (ap (λ b. cond b (Some e) (place_of es id)) (sym f) ∙ at) in
-        (in_tail e es place.0 place.1 (first (below_all path_cmp e.0 es) _ h) so.0, so.1))
+      (in_tail e es place.0 place.1 (first (below_all path_cmp e.0 es) _ h) so.0, so.1))
 
   pub place_of-missing : (tree : Tree B) (id : InodeId) (q : Names) (m : Node B) → place_of tree id ≡ None → node_at tree q ≡ Some m → m.id.0 ≡ id.0 → ⊥
   place_of-missing [] id q m none at same = none_some at
   place_of-missing (e ∷ es) id q m none at same = by (same_inode e.1.id id)
       (λ t. none_some (sym (ap (λ b. cond b (Some e) (place_of es id)) (sym t) ∙ none)))
       (λ f. by_place e es q m at
-        (λ qe me. true_false ((Decides-eqb e.1.id.0 id.0).1 (ap (λ (n : Node B). n.id.0) (sym me) ∙ same)) f)
-        (λ bt. place_of-missing es id q m (ap (λ b. cond b (Some e) (place_of es id)) (sym f) ∙ none) bt same))
+      (λ qe me. true_false ((Decides-eqb e.1.id.0 id.0).1 (ap (λ (n : Node B). n.id.0) (sym me) ∙ same)) f)
+      (λ bt. place_of-missing es id q m (ap (λ b. cond b (Some e) (place_of es id)) (sym f) ∙ none) bt same))
 
   module _ (tree : Tree B) (is : IsTree tree) where
     pub place_of-here : (q : Names) (m : Node B) (id : InodeId) → node_at tree q ≡ Some m → id.0 ≡ m.id.0 → place_of tree id ≡ Some (q, m)
     place_of-here q m id at same = by_one (place_of tree id)
         (λ place h. let so : (node_at tree place.0 ≡ Some place.1) × (place.1.id.0 ≡ id.0) = place_of-so tree id place is.sorted h in
-          let path : place.0 ≡ q = one_place tree is.each_once place.0 q place.1 m so.0 at (so.1 ∙ same) in
-          let node : place.1 ≡ m = same_some (sym so.0 ∙ ap (node_at tree) path ∙ at) in
-          h ∙ (λ i. Some (path i, node i)))
+        let path : place.0 ≡ q = one_place tree is.each_once place.0 q place.1 m so.0 at (so.1 ∙ same) in
+        let node : place.1 ≡ m = same_some (sym so.0 ∙ ap (node_at tree) path ∙ at) in
+        h ∙ (λ i. Some (path i, node i)))
         (λ none. absurd (place_of-missing tree id q m none at (sym same)))
 
     dir_some : (o : Option (Node B)) → is_dir_node o ≡ true → (dir : Node B) × (o ≡ Some dir) × (is_dir dir ≡ true)

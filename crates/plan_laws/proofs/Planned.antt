@@ -4,13 +4,11 @@ use Rattle.std.specs.Prelude.{not, ◌&&◌, slice_get}
 use Rattle.std.specs.List.{filter, filter_map, cons_option, AllByRecursion}
 use Rattle.std.specs.Option.{unwrap_or, option_map}
 use Rattle.std.specs.FinMap.Entries.{is_sorted, below_all}
-use Rattle.std.specs.Fmt.{decimal}
 use Rattle.std.proofs.lemmas.Option.{slice_get-map}
 use Rattle.hs_types.specs.Names.{Names}
 use Rattle.hs_types.specs.declared.call.Call.{Call}
 use Rattle.hs_types.specs.declared.call.Call.TheVariants as calls
 use Rattle.hs_plain.specs.declared.plan.Plan.{Plan}
-use Rattle.hs_plain.specs.declared.plan.Put.{Put}
 use Rattle.hs_plain.specs.declared.plan.Put.TheVariants as plan_puts
 use Rattle.hs_plain.specs.declared.plan.CopyJob.{CopyJob}
 use Rattle.hs_plain.specs.declared.state.Node.{Node}
@@ -18,15 +16,15 @@ use Rattle.hs_plain.specs.declared.state.Body.{Body}
 use Rattle.hs_plain.specs.declared.state.Body.TheVariants.{File, Dir}
 use Rattle.hs_plain.specs.Tree.{Tree, path_cmp, node_at, is_dir, is_dir_body, same_path, parent_of, place_of}
 use Rattle.hs_plain.specs.Report.{last_of, same_place}
-use Rattle.hs_plain.specs.Plan.{rest_below, outs, index_of, put_by, put_at, puts, is_other, is_copied, copies, text_below, out_place, out_calls, put_call, move_calls, pages_of, copy_calls as copy_texts, bytes_of_body, bytes_there, all_copy_calls, last_call, numbered_so, IsMerging as AreMerged}
+use Rattle.hs_plain.specs.Plan.{rest_below, outs, index_of, put_by, put_at, puts, is_other, is_copied, copies, text_below, out_place, out_calls, put_call, move_calls, pages_of, copy_calls as copy_texts, bytes_of_body, bytes_there, all_copy_calls, last_call, IsMerging as AreMerged}
 use Rattle.hs_plain.proofs.ValidTrees.{first, second}
 use Rattle.hs_plain.proofs.ValidShapes.{none_some, same_some, true_false, by_last, parent_of-last}
 use Rattle.hs_plain.proofs.ValidPlaces.{head_at, in_tail}
 use Rattle.plan_laws.specs.Sight.{Placing, Back, New, is_in, Rises}
 use Rattle.plan_laws.specs.Placings.{placing_by, placing_at, placings, as_put}
 use Rattle.plan_laws.specs.Pair.{IsPair}
-use Rattle.plan_laws.specs.Copies.{CopyCall, Create, Append, path_of_call, is_at, joined, appends, copy_calls, IsMerging}
-use Rattle.plan_laws.specs.Steps.{Step, Move, Make, Fill, Drop, out_steps, put_step, plan_steps, copy_call, step_call}
+use Rattle.plan_laws.specs.Copies.{CopyCall, path_of_call, is_at, joined, appends, copy_calls, IsMerging}
+use Rattle.plan_laws.specs.Steps.{Fill, Drop, out_steps, put_step, plan_steps, copy_call, step_call}
 use Rattle.plan_laws.specs.Numbers.{number}
 use Rattle.plan_laws.proofs.Paths.{by, by_one, rest-here}
 use Rattle.plan_laws.proofs.Places.{path_of_place, last_of-last, place_of-here, not_root}
@@ -69,7 +67,7 @@ index-low [] p h = absurd (true_false h refl)
 index-low (a ∷ others) p h = by (same_path a p)
     (λ t. subst (λ n. n < suc (length others)) (sym (ap (λ b. cond b 0 (index_of others p + 1)) t)) (omega arith))
     (λ f. let next : index_of others p < length others = index-low others p (ap (λ b. b || is_in others p) (sym f) ∙ h) in
-      subst (λ n. n < suc (length others)) (sym (ap (λ b. cond b 0 (index_of others p + 1)) f)) (omega arith))
+    subst (λ n. n < suc (length others)) (sym (ap (λ b. cond b 0 (index_of others p + 1)) f)) (omega arith))
 
 -- ---- puts
 
@@ -82,6 +80,7 @@ module _ {B : Type 0} (from to : Tree B) where
     where
       whole : (above : Names) (name : List ℕ) → parent_of (above ++ name ∷ []) ++ last_of (above ++ name ∷ []) ∷ [] ≡ above ++ name ∷ []
       whole above name = one_child (parent_of-last above name) (last_of-last above name)
+
       inner : (above : Names) (name : List ℕ) (o : Option (Names × Node B)) → option_map as_put (placing_by from to (above ++ name ∷ [], m) o) ≡ put_by from to (above ++ name ∷ [], m) o
       inner above name None = elim (is_dir m) as (λ b. option_map as_put (cond b (Some (New m (parent_of (above ++ name ∷ [])) (last_of (above ++ name ∷ [])))) None) ≡ cond b (Some (plan_puts.NewDir (above ++ name ∷ []))) None) [
         | true ↦ ap (λ (p : Names). Some (plan_puts.NewDir p)) (whole above name)
@@ -185,6 +184,7 @@ module _ (from to : Tree (List ℕ)) (is : IsPair from to) (root : List ℕ) (pl
       file : (b : Bool) → (not b && is_other (path, node) (place_of from node.id)) ≡ true → b ≡ false
       file true h = absurd (true_false h refl)
       file false h = refl
+
       by-body : (body : Body (List ℕ)) → node.body ≡ body → is_dir node ≡ false → node.body ≡ File (joined (pages_by (Some node)))
       by-body (File bytes) e plain = e ∙ ap File (sym (ap (λ b. joined (pages_of (length (bytes_of_body b)) (bytes_of_body b))) e ∙ joined-pages (length bytes) bytes (omega arith)))
       by-body Dir e plain = absurd (true_false (ap is_dir_body e) plain)
@@ -203,9 +203,11 @@ module _ (from to : Tree (List ℕ)) (is : IsPair from to) (root : List ℕ) (pl
       appends-there : (o : Option Names) (path : Names) (list : List (List ℕ)) → o ≡ Some path → AllByRecursion (λ call. o ≡ Some (path_of_call call)) (appends path list)
       appends-there o path [] e = tt
       appends-there o path (page ∷ list) e = (e, appends-there o path list e)
+
       each-there : (n : ℕ) (o : Option Names) → slice_get paths n ≡ o → AllByRecursion (λ call. slice_get paths n ≡ Some (path_of_call call)) (unwrap_or (option_map of_path o) [])
       each-there n None e = tt
       each-there n (Some path) e = (e, appends-there (slice_get paths n) path (pages path) e)
+
       with-calls : (m : IsMapped (copy_call text) merged.numbered list_at) → AreAt paths m.calls → IsByPath copied
       with-calls m at = record {
         made = map (λ pair. pair.1) m.calls;
@@ -235,6 +237,7 @@ module _ (root : List ℕ) (plan : Plan) where
     where
       lower : (n : ℕ) → k + suc n ≤ 2 ^ 64 → k < 2 ^ 64
       lower n few = omega arith
+
       later : (n : ℕ) → k + suc n ≤ 2 ^ 64 → k + 1 + n ≤ 2 ^ 64
       later n few = omega arith
 
@@ -259,18 +262,19 @@ module _ (root : List ℕ) (plan : Plan) where
       map (step_call below) (plan_steps plan.tmp number from to made) ≡ move_calls root plan ++ (map (copy_call below) made ++ last_call root plan ∷ [])
   steps-calls from to made plan_outs plan_puts few low =
       ap (λ zs. calls.Mkdir (below (plan.tmp ∷ [])) ∷ zs)
-        (map-onto (step_call below) (out_steps plan.tmp number 0 (outs from to)) (map (put_step plan.tmp number) (placings from to) ++ (map Fill made ++ Drop plan.tmp ∷ []))
-        ∙ (λ i. outs-texts (outs from to) 0 (from-none (length (outs from to)) few) i ++ rest i)
-        ∙ sym (append_assoc (out_calls root plan 0 (outs from to)) (map (put_call root plan) (puts from to)) (map (copy_call below) made ++ last_call root plan ∷ []))
-        ∙ (λ i. (out_calls root plan 0 (sym plan_outs i) ++ map (put_call root plan) (sym plan_puts i)) ++ (map (copy_call below) made ++ last_call root plan ∷ [])))
+      (map-onto (step_call below) (out_steps plan.tmp number 0 (outs from to)) (map (put_step plan.tmp number) (placings from to) ++ (map Fill made ++ Drop plan.tmp ∷ []))
+      ∙ (λ i. outs-texts (outs from to) 0 (from-none (length (outs from to)) few) i ++ rest i)
+      ∙ sym (append_assoc (out_calls root plan 0 (outs from to)) (map (put_call root plan) (puts from to)) (map (copy_call below) made ++ last_call root plan ∷ []))
+      ∙ (λ i. (out_calls root plan 0 (sym plan_outs i) ++ map (put_call root plan) (sym plan_puts i)) ++ (map (copy_call below) made ++ last_call root plan ∷ [])))
     where
       from-none : (n : ℕ) → n ≤ 2 ^ 64 → 0 + n ≤ 2 ^ 64
       from-none n few = omega arith
+
       rest : map (step_call below) (map (put_step plan.tmp number) (placings from to) ++ (map Fill made ++ Drop plan.tmp ∷ [])) ≡ map (put_call root plan) (puts from to) ++ (map (copy_call below) made ++ last_call root plan ∷ [])
       rest =
           map-onto (step_call below) (map (put_step plan.tmp number) (placings from to)) (map Fill made ++ Drop plan.tmp ∷ [])
           ∙ (λ i. (puts-texts (length (outs from to)) few (placings from to) low ∙ ap (map (put_call root plan)) (placings-puts from to)) i
-              ++ (map-onto (step_call below) (map Fill made) (Drop plan.tmp ∷ []) ∙ ap (λ zs. zs ++ last_call root plan ∷ []) (map-map (step_call below) Fill made)) i)
+          ++ (map-onto (step_call below) (map Fill made) (Drop plan.tmp ∷ []) ∙ ap (λ zs. zs ++ last_call root plan ∷ []) (map-map (step_call below) Fill made)) i)
 
 -- what holds of all copies' paths holds where a call of a copy is
 module _ (from to : Tree (List ℕ)) (is : IsPair from to) (root : List ℕ) (plan : Plan) (plan_copies : plan.copies ≡ copies from to) where
@@ -281,7 +285,7 @@ module _ (from to : Tree (List ℕ)) (is : IsPair from to) (root : List ℕ) (pl
   pub in-copies : {list : Names → List (List ℕ)} {made : List CopyCall} → IsMerging from to list made → (P : Names → Type 0) → AllByRecursion (λ (job : CopyJob). P job.to) plan.copies → (path : Names) → (filter (is_at path) made ≡ [] → ⊥) → P path
   in-copies {list} {made} merging P all path there = by_one (node_at to path)
       (λ node at. by (is_copied from (path, node))
-        (λ t. let k : (n : ℕ) × (slice_get (map path_of_place (filter (is_copied from) to)) n ≡ Some path) = in-slice (map path_of_place (filter (is_copied from) to)) path (in-filter (is_copied from) to path node at t) in
-          slice-all P (map path_of_place (filter (is_copied from) to)) k.0 path (jobs-paths P (filter (is_copied from) to) (subst (AllByRecursion (λ (job : CopyJob). P job.to)) plan_copies all)) k.1)
-        (λ f. absurd (there (merging.elsewhere path (λ other bt. ap (λ (x : Node (List ℕ)). is_copied from (path, x)) (same_some (sym bt ∙ at)) ∙ f)))))
+      (λ t. let k : (n : ℕ) × (slice_get (map path_of_place (filter (is_copied from) to)) n ≡ Some path) = in-slice (map path_of_place (filter (is_copied from) to)) path (in-filter (is_copied from) to path node at t) in
+      slice-all P (map path_of_place (filter (is_copied from) to)) k.0 path (jobs-paths P (filter (is_copied from) to) (subst (AllByRecursion (λ (job : CopyJob). P job.to)) plan_copies all)) k.1)
+      (λ f. absurd (there (merging.elsewhere path (λ other bt. ap (λ (x : Node (List ℕ)). is_copied from (path, x)) (same_some (sym bt ∙ at)) ∙ f)))))
       (λ none. absurd (there (merging.elsewhere path (λ other bt. absurd (none_some (sym none ∙ bt))))))

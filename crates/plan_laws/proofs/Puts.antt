@@ -20,8 +20,7 @@ no-hits [] q r none = refl
 no-hits (a ∷ others) q r none = ap (λ o. is_some o || hits others q) (none-shorter a q r none.0) ∙ no-hits others q r none.1
 
 module _ {X : Type 0} (Alike : X → X → Type 0) (from to : Sight X) (is_out is_put : Names → Bool) (differ : Differ Alike from to is_out is_put)
-  (tmp : List ℕ) (number : ℕ → List ℕ) (once : (i j : ℕ) → number i ≡ number j → i ≡ j) where
-
+    (tmp : List ℕ) (number : ℕ → List ℕ) (once : (i j : ℕ) → number i ≡ number j → i ≡ j) where
   -- ---- what is put away stays until its put
 
   back-kept : (s : Sight X) (i j : ℕ) (t r : Names) → IsOutside tmp t → (j ≡ i → ⊥) → moved_sight s (tmp ∷ number i ∷ []) t (tmp ∷ number j ∷ r) ≡ s (tmp ∷ number j ∷ r)
@@ -73,15 +72,15 @@ module _ {X : Type 0} (Alike : X → X → Type 0) (from to : Sight X) (is_out i
       ((r : Names) → hits paths (t ++ r) ≡ cuts (λ x. is_put (t ++ x)) r) → Stands Alike to tmp s (t ∷ paths) → Stands Alike to tmp (moved_sight s (tmp ∷ number i ∷ []) t) paths
   back-stands s i t p a b paths here there alike held linked stands q out = by_one (rest_below t q)
       (λ r below. let is : q ≡ t ++ r = rest-so t q r below in
-        both-at Alike
-          (ap (λ o. inside_or o (λ rest. s (tmp ∷ number i ∷ rest)) (inside_or (rest_below (tmp ∷ number i ∷ []) q) (λ rest. None) (s q))) below ∙ held r)
-          (ap (λ (x : Names). unless (hits paths x) (to x)) is ∙ ap (λ c. unless c (to (t ++ r))) (linked r))
-          (alike-below Alike from to is_out is_put differ r p t a b here there alike))
+      both-at Alike
+      (ap (λ o. inside_or o (λ rest. s (tmp ∷ number i ∷ rest)) (inside_or (rest_below (tmp ∷ number i ∷ []) q) (λ rest. None) (s q))) below ∙ held r)
+      (ap (λ (x : Names). unless (hits paths x) (to x)) is ∙ ap (λ c. unless c (to (t ++ r))) (linked r))
+      (alike-below Alike from to is_out is_put differ r p t a b here there alike))
       (λ apart. both-at Alike
-          (ap (λ o. inside_or o (λ rest. s (tmp ∷ number i ∷ rest)) (inside_or (rest_below (tmp ∷ number i ∷ []) q) (λ rest. None) (s q))) apart
-           ∙ ap (λ o. inside_or o (λ rest. None) (s q)) (none-deeper tmp (number i ∷ []) q out))
-          (ap (λ c. unless c (to q)) (sym (apart-hits t paths q apart)))
-          (stands q out))
+      (ap (λ o. inside_or o (λ rest. s (tmp ∷ number i ∷ rest)) (inside_or (rest_below (tmp ∷ number i ∷ []) q) (λ rest. None) (s q))) apart
+      ∙ ap (λ o. inside_or o (λ rest. None) (s q)) (none-deeper tmp (number i ∷ []) q out))
+      (ap (λ c. unless c (to q)) (sym (apart-hits t paths q apart)))
+      (stands q out))
 
   new-below : (s : Sight X) (t : Names) (node : X) (paths : List Names) (q r : Names) → rest_below t q ≡ Some r → q ≡ t ++ r → rest_below (tmp ∷ []) q ≡ None → to t ≡ Some node → Alike node node →
       ((n : List ℕ) → to (t ++ n ∷ []) ≡ None ⊎ is_put (t ++ n ∷ []) ≡ true) →
@@ -90,15 +89,15 @@ module _ {X : Type 0} (Alike : X → X → Type 0) (from to : Sight X) (is_out i
       both-at Alike {o = Some node} {u = Some node} refl (ap (λ (x : Names). unless (hits paths x) (to x)) is ∙ ap (λ c. unless c (to (t ++ []))) (linked []) ∙ ap to (append-nil t) ∙ there) alike
   new-below s t node paths q (n ∷ r) below is out there alike empty linked stands =
       both-at Alike
-        (none_here Alike (s q) (subst (λ c. Both Alike (s q) (unless c (to q))) (ap (λ o. is_some o || hits paths q) below) (stands q out)))
-        (ap (λ (x : Names). unless (hits paths x) (to x)) is ∙ ap (λ c. unless c (to (t ++ n ∷ r))) (linked (n ∷ r)) ∙ below-put Alike from to is_out is_put differ t n r (empty n))
-        tt
+      (none_here Alike (s q) (subst (λ c. Both Alike (s q) (unless c (to q))) (ap (λ o. is_some o || hits paths q) below) (stands q out)))
+      (ap (λ (x : Names). unless (hits paths x) (to x)) is ∙ ap (λ c. unless c (to (t ++ n ∷ r))) (linked (n ∷ r)) ∙ below-put Alike from to is_out is_put differ t n r (empty n))
+      tt
 
   new-stands : (s : Sight X) (t : Names) (node : X) (paths : List Names) → to t ≡ Some node → Alike node node → ((n : List ℕ) → to (t ++ n ∷ []) ≡ None ⊎ is_put (t ++ n ∷ []) ≡ true) →
       ((r : Names) → hits paths (t ++ r) ≡ cuts (λ x. is_put (t ++ x)) r) → Stands Alike to tmp s (t ∷ paths) → Stands Alike to tmp (made_sight s t node) paths
   new-stands s t node paths there alike empty linked stands q out = by_one (rest_below t q)
       (λ r below. both-at Alike {v = unless (hits paths q) (to q)} {w = unless (hits paths q) (to q)} (ap (λ o. inside_or o (at_top node (s q)) (s q)) below) refl
-          (new-below s t node paths q r below (rest-so t q r below) out there alike empty linked stands))
+      (new-below s t node paths q r below (rest-so t q r below) out there alike empty linked stands))
       (λ apart. both-at Alike (ap (λ o. inside_or o (at_top node (s q)) (s q)) apart) (ap (λ c. unless c (to q)) (sym (apart-hits t paths q apart))) (stands q out))
 
   -- ---- all puts
@@ -132,25 +131,27 @@ module _ {X : Type 0} (Alike : X → X → Type 0) (from to : Sight X) (is_out i
     free-at : (s : Sight X) (t : Names) (paths : List Names) → IsOutside tmp t → Stands Alike to tmp s (t ∷ paths) → s t ≡ None
     free-at s t paths out stands = none_here Alike (s t)
         (subst (λ c. Both Alike (s t) (unless c (to t))) (ap (λ (x : Names). is_some (rest_below t x) || hits paths t) (sym (append-nil t)) ∙ ap (λ o. is_some o || hits paths t) (rest-here t []))
-         (stands t (ap (rest_below (tmp ∷ [])) (sym (append-nil t)) ∙ outside-none tmp [] t [] out)))
+        (stands t (ap (rest_below (tmp ∷ [])) (sym (append-nil t)) ∙ outside-none tmp [] t [] out)))
 
     pub puts-go : (puts : List (Placing X)) (s : Sight X) → AllByRecursion (IsOutside tmp) (targets puts) → NumberOnce puts → IsLinked is_put puts → AllByRecursion (Is s) puts → Stands Alike to tmp s (targets puts) →
         PutsGo is_dir tmp number s puts
     puts-go [] s out once linked are stands = tt
-    puts-go (Back i above name ∷ puts) s out once linked are stands =
-        (record {
-           there = ap is_some (are.0.6 [] ∙ ap from (append-nil are.0.0) ∙ are.0.3);
-           above_dir = dir-above s above name (targets puts) are.0.2 out.0 are.0.4 linked.0 stands;
-           free = free-at s (above ++ name ∷ []) (targets puts) out.0 stands;
-         },
-         puts-go puts (moved_sight s (tmp ∷ number i ∷ []) (above ++ name ∷ [])) out.1 once.1 linked.2
-         (all-ready-back s i (above ++ name ∷ []) out.0 puts once.0 are.1)
-         (back-stands s i (above ++ name ∷ []) are.0.0 are.0.1 are.0.2 (targets puts) are.0.3 are.0.4 are.0.5 are.0.6 linked.1 stands))
-    puts-go (New node above name ∷ puts) s out once linked are stands =
-        (record {
-           above_dir = dir-above s above name (targets puts) node out.0 are.0.0 linked.0 stands;
-           free = free-at s (above ++ name ∷ []) (targets puts) out.0 stands;
-         },
-         puts-go puts (made_sight s (above ++ name ∷ []) node) out.1 once linked.2
-         (all-ready-new s (above ++ name ∷ []) node out.0 puts are.1)
-         (new-stands s (above ++ name ∷ []) node (targets puts) are.0.0 are.0.1 are.0.2 linked.1 stands))
+    puts-go (Back i above name ∷ puts) s out once linked are stands = (
+      record {
+        there = ap is_some (are.0.6 [] ∙ ap from (append-nil are.0.0) ∙ are.0.3);
+        above_dir = dir-above s above name (targets puts) are.0.2 out.0 are.0.4 linked.0 stands;
+        free = free-at s (above ++ name ∷ []) (targets puts) out.0 stands;
+      },
+      puts-go puts (moved_sight s (tmp ∷ number i ∷ []) (above ++ name ∷ [])) out.1 once.1 linked.2
+          (all-ready-back s i (above ++ name ∷ []) out.0 puts once.0 are.1)
+          (back-stands s i (above ++ name ∷ []) are.0.0 are.0.1 are.0.2 (targets puts) are.0.3 are.0.4 are.0.5 are.0.6 linked.1 stands),
+    )
+    puts-go (New node above name ∷ puts) s out once linked are stands = (
+      record {
+        above_dir = dir-above s above name (targets puts) node out.0 are.0.0 linked.0 stands;
+        free = free-at s (above ++ name ∷ []) (targets puts) out.0 stands;
+      },
+      puts-go puts (made_sight s (above ++ name ∷ []) node) out.1 once linked.2
+          (all-ready-new s (above ++ name ∷ []) node out.0 puts are.1)
+          (new-stands s (above ++ name ∷ []) node (targets puts) are.0.0 are.0.1 are.0.2 linked.1 stands),
+    )

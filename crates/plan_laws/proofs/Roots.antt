@@ -1,10 +1,8 @@
 -- A snapshottable directory: below it nothing is snapshottable, and it stays through calls elsewhere.
-use Rattle.std.proofs.Common.{◌≡◌, ℕ, ◌+◌, Bool, true, false, cond, Option, Some, None, Ok, is_some, List, [], ◌∷◌, ◌++◌, length, drop, refl, ap, sym, ◌∙◌, append-nil, append_assoc}
+use Rattle.std.proofs.Common.{◌≡◌, ◌+◌, Bool, true, false, cond, Some, Ok, is_some, [], ◌∷◌, ◌++◌, length, drop, refl, ap, sym, ◌∙◌, append-nil, append_assoc}
 use Rattle.std.specs.Prelude.{◌≢◌, not, ◌&&◌}
-use Rattle.std.specs.List.{filter, list_any}
+use Rattle.std.specs.List.{list_any}
 use Rattle.std.specs.Option.{option_map}
-use Rattle.std.specs.FinMap.Entries.{put}
-use Rattle.std.proofs.lemmas.Bool.Decides.{Decides-eqb}
 use Rattle.hs_types.specs.Names.{Names}
 use Rattle.hs_types.specs.declared.ids.InodeId.{InodeId}
 use Rattle.hs_types.specs.declared.call.Call.{Call}
@@ -14,26 +12,26 @@ use Rattle.hs_plain.specs.declared.state.Node.{Node}
 use Rattle.hs_plain.specs.declared.state.Member.{Member}
 use Rattle.hs_plain.specs.declared.state.State.{State}
 use Rattle.hs_plain.specs.Files.{Files}
-use Rattle.hs_plain.specs.Tree.{Tree, path_cmp, node_at, parent_of, is_dir, is_under, same_inode, place_of}
-use Rattle.hs_plain.specs.State.{new_dir, is_snapshottable, has_snapshots, holds_snapshots, holds_snapshottable}
+use Rattle.hs_plain.specs.Tree.{node_at, parent_of, is_under, same_inode, place_of}
+use Rattle.hs_plain.specs.State.{new_dir, is_snapshottable, has_snapshots}
 use Rattle.hs_plain.specs.Valid.{IsValid}
 use Rattle.hs_plain.specs.Places.{IsOutside}
 use Rattle.hs_plain.specs.Modifying.{mkdir_at, create_at, append_at, delete_at, rename_at, set_mode_at}
 use Rattle.hs_plain.specs.Snapshotting.{allow_at, disallow_at, snap_at, snap_del_at, snap_ren_at}
-use Rattle.hs_plain.specs.Change.{stamped, without, moved, new_file, with_node, with_file, made_dir, made_file, appended, removed, renamed, with_mode, allowed, disallowed, snapped, unsnapped, resnapped, still_in, change, changed_if, takes_effect, after, ticked}
+use Rattle.hs_plain.specs.Change.{stamped, without, moved, new_file, with_node, with_file, made_dir, made_file, appended, removed, renamed, with_mode, allowed, disallowed, snapped, unsnapped, resnapped, change, changed_if, takes_effect, after, ticked}
 use Rattle.hs_plain.proofs.ValidTrees.{first, second, if_asked-keeps}
 use Rattle.hs_plain.proofs.ValidShapes.{Shape, true_false, under_so}
 use Rattle.hs_plain.proofs.ValidLists.{In, false_by, none_from, any_so, all_so, in-filter, in-left}
 use Rattle.hs_plain.proofs.ValidMembers.{inode_so}
 use Rattle.hs_plain.proofs.ValidNodes.{shape, shapes, shape_some}
 use Rattle.hs_plain.proofs.ValidHeld.{in-tree, found_place}
-use Rattle.hs_plain.proofs.ValidDirs.{above_test, listed_so, listed_test, AreDirs}
+use Rattle.hs_plain.proofs.ValidDirs.{above_test, listed_so, AreDirs}
 use Rattle.hs_plain.proofs.ValidFollows.{live_tree, live_dirs}
 use Rattle.hs_plain.proofs.ValidChanges.{shapes-stamped, shapes-moded, put_there, without_there}
 use Rattle.hs_plain.proofs.ValidCalls.{free_below}
 use Rattle.hs_plain.proofs.ValidAsked.{MayMove, rename_allowed}
 use Rattle.hs_plain.proofs.Trees.{moved-elsewhere, no_place}
-use Rattle.plan_laws.proofs.Paths.{by, by_one}
+use Rattle.plan_laws.proofs.Paths.{by_one}
 use Rattle.plan_laws.proofs.Bridge.{IsBare}
 
 module _ {B : Type 0} where
@@ -58,7 +56,7 @@ module _ {B : Type 0} where
         let here : shapes state.tree place.0 ≡ Some (shape place.1) = ap (option_map shape) (found_place state.tree valid.sorted place there) in
         let same : place.0 ≡ d.0 = (live_tree state valid).once place.0 d.0 (shape place.1) (place.1.id.0, true) here d.1 refl in
         true_false (above_test root place.0 name (path ++ drop (length (root ++ name ∷ path)) place.0) deeper)
-          (dirs.apart root place.0 id place.1.id at.1 other at.0 (ap (shapes state.tree) same ∙ d.1))))
+        (dirs.apart root place.0 id place.1.id at.1 other at.0 (ap (shapes state.tree) same ∙ d.1))))
 
     has-held : (other : InodeId) → has_snapshots state other ≡ true → In state.snapshottable other
     has-held other h =
@@ -87,20 +85,22 @@ module _ {B : Type 0} where
     still path out = by_one (place_of (without state.tree path) id)
         (λ place h. ap is_some h)
         (λ gone. let n : (n : Node B) × (node_at (without state.tree path) root ≡ Some n) × (shape n ≡ (id.0, true)) = shape_some (node_at (without state.tree path) root) (id.0, true) (left path out) in
-          absurd {A = is_some (place_of (without state.tree path) id) ≡ true} (no_place (without state.tree path) id gone (root, n.0) (in-tree (without state.tree path) root n.0 n.1) (ap (λ (s : Shape). s.0) n.2)))
+        absurd {A = is_some (place_of (without state.tree path) id) ≡ true} (no_place (without state.tree path) id gone (root, n.0) (in-tree (without state.tree path) root n.0 n.1) (ap (λ (s : Shape). s.0) n.2)))
 
     kept-removed : (path : Names) → IsOutside path root → IsRootAt (removed state path) root id
-    kept-removed path out =
-        ((λ i. shapes-stamped (without state.tree path) (parent_of path) (state.tick + 1) i root) ∙ left path out,
-         in-filter (λ other. is_some (place_of (without state.tree path) other)) state.snapshottable id at.1 (still path out))
+    kept-removed path out = (
+      (λ i. shapes-stamped (without state.tree path) (parent_of path) (state.tick + 1) i root) ∙ left path out,
+      in-filter (λ other. is_some (place_of (without state.tree path) other)) state.snapshottable id at.1 (still path out),
+    )
 
     kept-renamed : (old new : Names) → MayMove state.tree old new → IsOutside old root → IsOutside new root → IsRootAt (renamed state (old, new)) root id
-    kept-renamed old new may out_old out_new =
-        ((λ i. shapes-stamped (stamped (moved state.tree old new) (parent_of old) (state.tick + 1)) (parent_of new) (state.tick + 1) i root)
-         ∙ (λ i. shapes-stamped (moved state.tree old new) (parent_of old) (state.tick + 1) i root)
-         ∙ ap (option_map shape) (moved-elsewhere state.tree old new valid.sorted (free_below state.tree state.next_inode new (live_tree state valid) may.free) root out_new)
-         ∙ left old out_old,
-         at.1)
+    kept-renamed old new may out_old out_new = (
+      (λ i. shapes-stamped (stamped (moved state.tree old new) (parent_of old) (state.tick + 1)) (parent_of new) (state.tick + 1) i root)
+          ∙ (λ i. shapes-stamped (moved state.tree old new) (parent_of old) (state.tick + 1) i root)
+          ∙ ap (option_map shape) (moved-elsewhere state.tree old new valid.sorted (free_below state.tree state.next_inode new (live_tree state valid) may.free) root out_new)
+          ∙ left old out_old,
+      at.1,
+    )
 
     kept-allowed : (other : InodeId) → IsRootAt (allowed state other) root id
     kept-allowed other = elim (is_snapshottable state other) as (λ b. IsRootAt (cond {A = State B} b state (record state { snapshottable = state.snapshottable ++ other ∷ [] })) root id) [

@@ -34,15 +34,16 @@ module _ {B V : Type 0} (f : Names × Node B → Option V) where
       let rest : find path_cmp q (entries f es) ≡ look f es q = find-entries es q (second (below_all path_cmp e.0 es) _ h) in
       by (eq_by_cmp path_cmp q e.0)
       (λ t. let same : q ≡ e.0 = same_so t in
-        let gone : find path_cmp q (entries f es) ≡ None = rest ∙ ap (look_by f q) (ap (node_at es) same ∙ missing_below e.0 es (first (below_all path_cmp e.0 es) _ h)) in
-        here (f e) t gone
-        ∙ ap (λ (x : Names). f (x, e.1)) (sym same)
-        ∙ sym (ap (λ b. look_by f q (cond b (Some e.1) (node_at es q))) t))
+      let gone : find path_cmp q (entries f es) ≡ None = rest ∙ ap (look_by f q) (ap (node_at es) same ∙ missing_below e.0 es (first (below_all path_cmp e.0 es) _ h)) in
+      here (f e) t gone
+      ∙ ap (λ (x : Names). f (x, e.1)) (sym same)
+      ∙ sym (ap (λ b. look_by f q (cond b (Some e.1) (node_at es q))) t))
       (λ t. there (f e) t ∙ rest ∙ sym (ap (λ b. look_by f q (cond b (Some e.1) (node_at es q))) t))
     where
       here : (o : Option V) → eq_by_cmp path_cmp q e.0 ≡ true → find path_cmp q (entries f es) ≡ None → find path_cmp q (cons_option (option_map (λ v. (e.0, v)) o) (entries f es)) ≡ o
       here None t gone = gone
       here (Some v) t gone = ap (λ b. cond b (Some v) (find path_cmp q (entries f es))) t
+
       there : (o : Option V) → eq_by_cmp path_cmp q e.0 ≡ false → find path_cmp q (cons_option (option_map (λ v. (e.0, v)) o) (entries f es)) ≡ find path_cmp q (entries f es)
       there None t = refl
       there (Some v) t = ap (λ b. cond b (Some v) (find path_cmp q (entries f es))) t
@@ -57,10 +58,10 @@ module _ {B V : Type 0} (f : Names × Node B → Option V) where
       find-made tree q es (put path_cmp e.0 e.1 acc) sound.1
       ∙ ap (λ o. cond (has_path es q) (look f tree q) o) (find-put path_cmp paths_total q e.0 e.1 acc)
       ∙ by (eq_by_cmp path_cmp q e.0)
-          (λ t. ap (λ b. cond (has_path es q) (look f tree q) (cond b (Some e.1) (find path_cmp q acc))) t
-            ∙ either-way (has_path es q) (sym (ap (look f tree) (same_so t) ∙ sound.0))
-            ∙ sym (ap (λ b. cond (b || has_path es q) (look f tree q) (find path_cmp q acc)) t))
-          (λ t. ap (λ b. cond (has_path es q) (look f tree q) (cond b (Some e.1) (find path_cmp q acc))) t ∙ sym (ap (λ b. cond (b || has_path es q) (look f tree q) (find path_cmp q acc)) t))
+      (λ t. ap (λ b. cond (has_path es q) (look f tree q) (cond b (Some e.1) (find path_cmp q acc))) t
+      ∙ either-way (has_path es q) (sym (ap (look f tree) (same_so t) ∙ sound.0))
+      ∙ sym (ap (λ b. cond (b || has_path es q) (look f tree q) (find path_cmp q acc)) t))
+      (λ t. ap (λ b. cond (has_path es q) (look f tree q) (cond b (Some e.1) (find path_cmp q acc))) t ∙ sym (ap (λ b. cond (b || has_path es q) (look f tree q) (find path_cmp q acc)) t))
     where
       either-way : (b : Bool) → Some e.1 ≡ look f tree q → cond b (look f tree q) (Some e.1) ≡ look f tree q
       either-way true h = refl

@@ -2,7 +2,6 @@
 use Rattle.std.proofs.Common.{◌≡◌, ℕ, ◌+◌, Bool, true, false, cond, Option, Some, None, Ok, List, [], ◌∷◌, ◌++◌, map, refl, ap, sym, subst, ◌∙◌, append-nil, append_assoc}
 use Rattle.std.specs.Prelude.{◌&&◌, not}
 use Rattle.std.specs.List.{filter, AllByRecursion}
-use Rattle.std.specs.Option.{option_map}
 use Rattle.std.proofs.lemmas.List.{append_cancel_left}
 use Rattle.hs_types.specs.Names.{Names}
 use Rattle.hs_types.specs.Paths.{components}
@@ -17,7 +16,7 @@ use Rattle.hs_plain.specs.declared.state.State.{State}
 use Rattle.hs_plain.specs.declared.state.Body.TheVariants.{Dir}
 use Rattle.hs_plain.specs.Asked.{Asked}
 use Rattle.hs_plain.specs.Files.{plain_files}
-use Rattle.hs_plain.specs.Tree.{Tree, node_at, is_dir_body, parent_of}
+use Rattle.hs_plain.specs.Tree.{Tree, node_at, is_dir_body}
 use Rattle.hs_plain.specs.Valid.{IsValid}
 use Rattle.hs_plain.specs.Places.{IsOutside}
 use Rattle.hs_plain.specs.Modifying.{mkdir_at, create_at, append_at, delete_at, rename_at}
@@ -26,7 +25,7 @@ use Rattle.hs_plain.specs.Change.{after, change, changed_if, takes_effect, is_ac
 use Rattle.hs_plain.specs.Replay.{replay_from}
 use Rattle.hs_plain.specs.Span.{touches}
 use Rattle.hs_plain.specs.Plan.{outs, rest_below}
-use Rattle.hs_plain.proofs.ValidShapes.{none_some, true_false, not_last, not_more}
+use Rattle.hs_plain.proofs.ValidShapes.{true_false, not_last, not_more}
 use Rattle.hs_plain.proofs.ValidAsked.{same_ok}
 use Rattle.hs_plain.proofs.ValidNodes.{shape, shape_some}
 use Rattle.hs_plain.proofs.ValidShapes.{Shape}
@@ -40,7 +39,7 @@ use Rattle.plan_laws.specs.Steps.{Step, Move, Make, Fill, Drop, step_done, steps
 use Rattle.plan_laws.proofs.Paths.{by, outside-none, outside-other}
 use Rattle.plan_laws.proofs.Child.{dir_body}
 use Rattle.plan_laws.proofs.Moves.{outs-outside-tmp, targets-outside, each-put, put-parts}
-use Rattle.plan_laws.proofs.Whole.{sync-goes, sync-equal}
+use Rattle.plan_laws.proofs.Whole.{sync-goes}
 use Rattle.plan_laws.proofs.Bridge.{IsBare, rename-ok, rename-changes, mkdir-ok, mkdir-changes, create-ok, create-changes, append-ok, append-changes, delete-ok, delete-changes}
 use Rattle.plan_laws.proofs.Roots.{IsRootAt, IsElsewhere, bare, root-stays}
 use Rattle.plan_laws.proofs.Apart.{CallApart, untouched, far-apart}
@@ -123,11 +122,14 @@ module _ (text : Names → List ℕ) (root : Names) (id : InodeId) (state : Stat
 
   own-entry : (entry : Entry) (step : Step) → entry.call ≡ step_call text step → is_accepted entry.kind ≡ true → StepLeads text root step → StepGoes (held state root) step →
       (is_ok_reply (answer state entry.call) ≡ true) × Next entry (step_done (held state root) step)
-  own-entry entry step is_call accepted leads goes =
-      (ap (λ call. is_ok_reply (answer state call)) is_call ∙ step-ok step leads goes,
-       (ap (λ b. held (ticked (changed_if b plain_files state entry.call)) root) (λ i. accepted i && (ap is_modifying is_call ∙ step-modifies step) i)
-       ∙ ap (λ call. held (change plain_files state call) root) is_call ∙ step-sees step leads goes,
-       root-stays state valid root id at plain_files entry (subst (IsElsewhere state valid root id at) (sym is_call) (step-elsewhere step leads goes))))
+  own-entry entry step is_call accepted leads goes = (
+    ap (λ call. is_ok_reply (answer state call)) is_call ∙ step-ok step leads goes,
+    (
+      ap (λ b. held (ticked (changed_if b plain_files state entry.call)) root) (λ i. accepted i && (ap is_modifying is_call ∙ step-modifies step) i)
+          ∙ ap (λ call. held (change plain_files state call) root) is_call ∙ step-sees step leads goes,
+      root-stays state valid root id at plain_files entry (subst (IsElsewhere state valid root id at) (sym is_call) (step-elsewhere step leads goes)),
+    ),
+  )
 
   apart-elsewhere : (call : Call) → CallApart state root id call → IsElsewhere state valid root id at call
   apart-elsewhere (calls.Mkdir text) apart = λ path h. (apart path h).not_above
@@ -175,7 +177,7 @@ module _ (text : Names → List ℕ) (root_text : List ℕ) (root : Names) (root
   own-case : (entry : Entry) (entries : List Entry) (steps : List Step) (rest : List Call) (state : State (List ℕ)) (seen : Contents) → IsValid state → (at : IsRootAt state root id) → held state root ≡ seen →
       entry.call ∷ (own_calls is_own entries ++ rest) ≡ map (step_call text) steps → AllByRecursion (StepLeads text root) steps → StepsGo seen steps → is_accepted entry.kind ≡ true →
       ((others : List Step) (next : Contents) → IsRootAt (after plain_files state entry) root id → held (after plain_files state entry) root ≡ next → own_calls is_own entries ++ rest ≡ map (step_call text) others → AllByRecursion (StepLeads text root) others → StepsGo next others →
-        Leads entries others rest (after plain_files state entry) next) →
+      Leads entries others rest (after plain_files state entry) next) →
       Leads (entry ∷ entries) steps rest state seen
   own-case entry entries [] rest state seen valid at sees e leads go accepted next = absurd (no-cons e)
   own-case entry entries (step ∷ steps) rest state seen valid at sees e leads go accepted next =
@@ -186,6 +188,7 @@ module _ (text : Names → List ℕ) (root_text : List ℕ) (root : Names) (root
     where
       heads : {a b : Call} {xs ys : List Call} → a ∷ xs ≡ b ∷ ys → a ≡ b
       heads h = cc
+
       tails : {a b : Call} {xs ys : List Call} → a ∷ xs ≡ b ∷ ys → xs ≡ ys
       tails h = cc
 
@@ -197,13 +200,13 @@ module _ (text : Names → List ℕ) (root_text : List ℕ) (root : Names) (root
   all-entries [] (step ∷ steps) rest state seen valid at sees e leads go accepted others = (tt, ((λ none. absurd (no-cons (sym e ∙ none))), at))
   all-entries (entry ∷ entries) steps rest state seen valid at sees e leads go accepted others = by (is_own entry)
       (λ own. own-case entry entries steps rest state seen valid at sees
-        (ap (λ b. map (λ (one : Entry). one.call) (cond b (entry ∷ filter is_own entries) (filter is_own entries)) ++ rest) (sym own) ∙ e) leads go (accepted.0 own)
-        (λ more next root_at seen_next same more_leads more_go. all-entries entries more rest (after plain_files state entry) next (valid-after state valid plain_files entry) root_at seen_next same more_leads more_go accepted.1 others.1))
+      (ap (λ b. map (λ (one : Entry). one.call) (cond b (entry ∷ filter is_own entries) (filter is_own entries)) ++ rest) (sym own) ∙ e) leads go (accepted.0 own)
+      (λ more next root_at seen_next same more_leads more_go. all-entries entries more rest (after plain_files state entry) next (valid-after state valid plain_files entry) root_at seen_next same more_leads more_go accepted.1 others.1))
       (λ other.
-        let done : (held (after plain_files state entry) root ≡ held state root) × IsRootAt (after plain_files state entry) root id = other-entry text root id state valid at root_text root_is entry (others.0 other) in
-        let more : Leads entries steps rest (after plain_files state entry) seen = all-entries entries steps rest (after plain_files state entry) seen (valid-after state valid plain_files entry) done.1 (done.0 ∙ sees)
-            (ap (λ b. map (λ (one : Entry). one.call) (cond b (entry ∷ filter is_own entries) (filter is_own entries)) ++ rest) (sym other) ∙ e) leads go accepted.1 others.1 in
-        (((λ own. absurd (true_false own other)), more.0), more.1))
+      let done : (held (after plain_files state entry) root ≡ held state root) × IsRootAt (after plain_files state entry) root id = other-entry text root id state valid at root_text root_is entry (others.0 other) in
+      let more : Leads entries steps rest (after plain_files state entry) seen = all-entries entries steps rest (after plain_files state entry) seen (valid-after state valid plain_files entry) done.1 (done.0 ∙ sees)
+      (ap (λ b. map (λ (one : Entry). one.call) (cond b (entry ∷ filter is_own entries) (filter is_own entries)) ++ rest) (sym other) ∙ e) leads go accepted.1 others.1 in
+      (((λ own. absurd (true_false own other)), more.0), more.1))
 
 -- ---- the steps of a plan
 
@@ -239,9 +242,10 @@ module _ (tmp : List ℕ) (number : ℕ → List ℕ) where
 
   puts-steps : (ps : List (Placing (Node (List ℕ)))) (seen : Contents) → AllByRecursion IsDirNew ps → AllByRecursion (IsNotIn tmp) (targets ps) → PutsGo is_dir_body tmp number seen (map content_put ps) → StepsGo seen (map (put_step tmp number) ps)
   puts-steps [] seen dirs out go = tt
-  puts-steps (Back i above name ∷ ps) seen dirs out go =
-      ((go.0, not-empty i, ap (rest_below (tmp ∷ number i ∷ [])) (sym (append-nil (above ++ name ∷ []))) ∙ outside-none tmp (number i ∷ []) (above ++ name ∷ []) [] out.0),
-       puts-steps ps (moved_sight seen (tmp ∷ number i ∷ []) (above ++ name ∷ [])) dirs.1 out.1 go.1)
+  puts-steps (Back i above name ∷ ps) seen dirs out go = (
+    (go.0, not-empty i, ap (rest_below (tmp ∷ number i ∷ [])) (sym (append-nil (above ++ name ∷ []))) ∙ outside-none tmp (number i ∷ []) (above ++ name ∷ []) [] out.0),
+    puts-steps ps (moved_sight seen (tmp ∷ number i ∷ []) (above ++ name ∷ [])) dirs.1 out.1 go.1,
+  )
     where
       not-empty : (i : ℕ) → tmp ∷ number i ∷ [] ≡ [] → ⊥
       not-empty i e = cc
@@ -271,8 +275,8 @@ module _ (tmp : List ℕ) (number : ℕ → List ℕ) (from to : Tree (List ℕ)
   new-dirs : AllByRecursion (IsDirNew tmp number) (placings from to)
   new-dirs = each-put (placing_at from to) (IsDirNew tmp number) to is.to_tree.sorted
       (λ q m put at h. put-parts from to is tmp number once top refl from_free to_free q m put h
-        (λ above name old e from_at moves is_put. subst (IsDirNew tmp number) (sym is_put) tt)
-        (λ above name e none dir is_put. subst (IsDirNew tmp number) (sym is_put) (dir_body from to is m.body dir)))
+      (λ above name old e from_at moves is_put. subst (IsDirNew tmp number) (sym is_put) tt)
+      (λ above name e none dir is_put. subst (IsDirNew tmp number) (sym is_put) (dir_body from to is m.body dir)))
 
   abbrev begun : Contents
   begun = made_sight target (tmp ∷ []) Dir
@@ -281,16 +285,17 @@ module _ (tmp : List ℕ) (number : ℕ → List ℕ) (from to : Tree (List ℕ)
   plan-goes =
       let outs_same : steps_done begun (out_steps tmp number 0 (outs from to)) ≡ after_outs tmp number from to target = outs-done tmp number (outs from to) begun 0 in
       let puts_same : steps_done (after_outs tmp number from to target) (map (put_step tmp number) (placings from to)) ≡ after_puts tmp number from to target = puts-all tmp number (placings from to) (after_outs tmp number from to target) new-dirs in
-      let copied : calls_done (after_puts tmp number from to target) copies ≡ steps_done (after_puts tmp number from to target) (map Fill copies) = sym (fills-done copies (after_puts tmp number from to target)) in
-      (record { above_dir = dir-seen (target []) goes.root; free = goes.tmp_free },
-       steps-append (out_steps tmp number 0 (outs from to)) (map (put_step tmp number) (placings from to) ++ (map Fill copies ++ Drop tmp ∷ [])) begun
-       (outs-steps tmp number (outs from to) begun 0 (outs-outside-tmp from to is tmp number once top refl from_free to_free) goes.outs_go)
-       (subst (λ (c : Contents). StepsGo c (map (put_step tmp number) (placings from to) ++ (map Fill copies ++ Drop tmp ∷ []))) (sym outs_same)
-         (steps-append (map (put_step tmp number) (placings from to)) (map Fill copies ++ Drop tmp ∷ []) (after_outs tmp number from to target)
-         (puts-steps tmp number (placings from to) (after_outs tmp number from to target) new-dirs (targets-outside from to is tmp number once top refl from_free to_free) goes.puts_go)
-         (subst (λ (c : Contents). StepsGo c (map Fill copies ++ Drop tmp ∷ [])) (sym puts_same)
-           (steps-append (map Fill copies) (Drop tmp ∷ []) (after_puts tmp number from to target) (fills-steps copies (after_puts tmp number from to target) goes.copies_go)
-           (ap (λ (c : Contents). is_dir_seen (c (tmp ∷ []))) (sym copied) ∙ goes.tmp_there, tt))))))
+      let copied : calls_done (after_puts tmp number from to target) copies ≡ steps_done (after_puts tmp number from to target) (map Fill copies) = sym (fills-done copies (after_puts tmp number from to target)) in (
+        record { above_dir = dir-seen (target []) goes.root; free = goes.tmp_free },
+        steps-append (out_steps tmp number 0 (outs from to)) (map (put_step tmp number) (placings from to) ++ (map Fill copies ++ Drop tmp ∷ [])) begun
+            (outs-steps tmp number (outs from to) begun 0 (outs-outside-tmp from to is tmp number once top refl from_free to_free) goes.outs_go)
+            (subst (λ (c : Contents). StepsGo c (map (put_step tmp number) (placings from to) ++ (map Fill copies ++ Drop tmp ∷ []))) (sym outs_same)
+            (steps-append (map (put_step tmp number) (placings from to)) (map Fill copies ++ Drop tmp ∷ []) (after_outs tmp number from to target)
+            (puts-steps tmp number (placings from to) (after_outs tmp number from to target) new-dirs (targets-outside from to is tmp number once top refl from_free to_free) goes.puts_go)
+            (subst (λ (c : Contents). StepsGo c (map Fill copies ++ Drop tmp ∷ [])) (sym puts_same)
+            (steps-append (map Fill copies) (Drop tmp ∷ []) (after_puts tmp number from to target) (fills-steps copies (after_puts tmp number from to target) goes.copies_go)
+            (ap (λ (c : Contents). is_dir_seen (c (tmp ∷ []))) (sym copied) ∙ goes.tmp_there, tt))))),
+      )
 
   pub plan-done : steps_done target (plan_steps tmp number from to copies) ≡ after_sync tmp number from to copies target
   plan-done =

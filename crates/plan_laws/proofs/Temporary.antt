@@ -48,11 +48,11 @@ kept : (name other : List ℕ) (names : Names) → (other ≡ name → ⊥) → 
 kept name other [] differ h = h
 kept name other (one ∷ others) differ h = by (bytes_eq one name)
     (λ t. ap (λ b. has_name (cond b (without_name name others) (one ∷ without_name name others)) other) t
-      ∙ kept name other others differ (sym (ap (λ b. b || has_name others other) (not-other ((bytes_eq-Decides one name).0 t))) ∙ h))
+    ∙ kept name other others differ (sym (ap (λ b. b || has_name others other) (not-other ((bytes_eq-Decides one name).0 t))) ∙ h))
     (λ f. ap (λ b. has_name (cond b (without_name name others) (one ∷ without_name name others)) other) f
-      ∙ or_split (bytes_eq one other) (has_name others other) h
-        (λ t. ap (λ b. b || has_name (without_name name others) other) t)
-        (λ t. or_second (bytes_eq one other) (has_name (without_name name others) other) (kept name other others differ t)))
+    ∙ or_split (bytes_eq one other) (has_name others other) h
+    (λ t. ap (λ b. b || has_name (without_name name others) other) t)
+    (λ t. or_second (bytes_eq one other) (has_name (without_name name others) other) (kept name other others differ t)))
   where
     not-other : one ≡ name → bytes_eq one other ≡ false
     not-other e = differs one other (λ d. differ (sym d ∙ e))
@@ -67,9 +67,9 @@ free-name taken left zero k low few all = by (has_name taken (tmp_name k)) (λ t
     none-left (one ∷ others) few h = omega arith
 free-name taken left (suc more) k low few all = by (has_name taken (tmp_name k))
     (λ t. ap (λ b. has_name taken (cond b (first_free taken more (k + 1)) (tmp_name k))) t
-      ∙ (let fewer : length (without_name (tmp_name k) left) < length left = shorter (tmp_name k) left (all k (omega arith) (omega arith) t) in
-        free-name taken (without_name (tmp_name k) left) more (k + 1) (omega arith) (omega arith)
-        (λ j le small h. kept (tmp_name k) (tmp_name j) left (λ e. let same : j ≡ k = names-once j k small (omega arith) e in absurd (omega arith)) (all j (omega arith) small h))))
+    ∙ (let fewer : length (without_name (tmp_name k) left) < length left = shorter (tmp_name k) left (all k (omega arith) (omega arith) t) in
+    free-name taken (without_name (tmp_name k) left) more (k + 1) (omega arith) (omega arith)
+    (λ j le small h. kept (tmp_name k) (tmp_name j) left (λ e. let same : j ≡ k = names-once j k small (omega arith) e in absurd (omega arith)) (all j (omega arith) small h))))
     (λ f. ap (λ b. has_name taken (cond b (first_free taken more (k + 1)) (tmp_name k))) f ∙ f)
 
 pub tmp-free : (names : RootNames) → length (names.target ++ names.source) < 2 ^ 64 → has_name (names.target ++ names.source) (tmp_for names) ≡ false
@@ -98,7 +98,7 @@ listed-name items before item behind e = ap (λ (xs : List Item). has_name (map 
 no-child : (tree : Tree (List ℕ)) (name : List ℕ) → has_name (root_names tree) name ≡ false → node_at tree (name ∷ []) ≡ None
 no-child tree name free = by_one (node_at tree (name ∷ []))
     (λ node at. let item : IsIn (listing tree []) (item_of node name) = listed-child tree [] name node at in
-      absurd (true_false (listed-name (listing tree []) item.before (item_of node name) item.after item.is) free))
+    absurd (true_false (listed-name (listing tree []) item.before (item_of node name) item.after item.is) free))
     (λ none. none)
 
 neither-left : (a b : _) → (a || b) ≡ false → a ≡ false

@@ -47,8 +47,10 @@ module _ (path : Names) where
     where
       same : s ≡ one.path
       same = same-so one.path s (second (is_renaming one.kind one.to) (same_path one.path s) h)
+
       here : rest_below one.path path ≡ Some r
       here = ap (λ (x : Names). rest_below x path) (sym same) ∙ below
+
       by-kind : (k : LineKind) (o : Option Names) → is_renaming k o ≡ true → (f : Lead) × (cond (is_renamed k) (lead_of one.path o (rest_below one.path path)) None ≡ Some f) × (f.source ≡ s)
       by-kind Renamed (Some to) h = (record { source = one.path; target = to; rest = r }, ap (lead_of one.path (Some to)) here, sym same)
       by-kind Renamed None h = absurd (true_false h refl)
@@ -60,11 +62,11 @@ module _ (path : Names) where
   longest-there [] s r below h = absurd (true_false h refl)
   longest-there (one ∷ lines) s r below h = or_split (is_renaming one.kind one.to && same_path one.path s) (is_source lines s) h
       (λ t. let there : (f : Lead) × (lead_by one path ≡ Some f) × (f.source ≡ s) = source-there one s r below t in
-        longer-left (lead_by one path) (longest lines path) (length s)
-          (λ f e. subst (λ (x : Lead). length s ≤ length x.source) (same_some (sym there.1 ∙ e)) (let e : length there.0.source ≡ length s = ap length there.2 in omega arith))
-          (ap is_some there.1))
+      longer-left (lead_by one path) (longest lines path) (length s)
+      (λ f e. subst (λ (x : Lead). length s ≤ length x.source) (same_some (sym there.1 ∙ e)) (let e : length there.0.source ≡ length s = ap length there.2 in omega arith))
+      (ap is_some there.1))
       (λ t. let next : (f : Lead) × (longest lines path ≡ Some f) × (length s ≤ length f.source) = longest-there lines s r below t in
-        longer-right (lead_by one path) (longest lines path) (length s) next.0 next.1 next.2)
+      longer-right (lead_by one path) (longest lines path) (length s) next.0 next.1 next.2)
 
   -- the longest is a line's, with what is left of the path
   abbrev pub IsLine : (Names → Names → Type 0) → Lead → Type 0
@@ -163,8 +165,10 @@ module _ {B : Type 0} (from to : Tree B) (is : IsPair from to) where
 
   is_deleted : Deleted ≡ Renamed → ⊥
   is_deleted e = cc
+
   is_modified : Modified ≡ Renamed → ⊥
   is_modified e = cc
+
   is_created : Created ≡ Renamed → ⊥
   is_created e = cc
 
@@ -175,10 +179,10 @@ module _ {B : Type 0} (from to : Tree B) (is : IsPair from to) where
   lines-move : (q : Names) (m : Node B) → node_at from q ≡ Some m → AllByRecursion IsMove (lines_from from to (q, m))
   lines-move q m at = by_one (place_of to m.id)
       (λ other h. subst (λ o. AllByRecursion IsMove (lines_by from to (q, m) o)) (sym h)
-        (let so : (node_at to other.0 ≡ Some other.1) × (other.1.id.0 ≡ m.id.0) = place_of-so to m.id other is.to_tree.sorted h in
-        each-if IsMove (not (same_place from to q other.0)) (line_of Renamed q (Some other.0) m) (line_if (not (m.stamp == other.1.stamp)) (line_of Modified q None m) [])
-          (λ t _ e. subst (Leads q) (same_some e) (m, other.1, at, so.0, sym so.1))
-          (each-if IsMove (not (m.stamp == other.1.stamp)) (line_of Modified q None m) [] (λ t k _. absurd (is_modified k)) tt)))
+      (let so : (node_at to other.0 ≡ Some other.1) × (other.1.id.0 ≡ m.id.0) = place_of-so to m.id other is.to_tree.sorted h in
+      each-if IsMove (not (same_place from to q other.0)) (line_of Renamed q (Some other.0) m) (line_if (not (m.stamp == other.1.stamp)) (line_of Modified q None m) [])
+      (λ t _ e. subst (Leads q) (same_some e) (m, other.1, at, so.0, sym so.1))
+      (each-if IsMove (not (m.stamp == other.1.stamp)) (line_of Modified q None m) [] (λ t k _. absurd (is_modified k)) tt)))
       (λ none. subst (λ o. AllByRecursion IsMove (lines_by from to (q, m) o)) (sym none) (each-if IsMove (has_id to (id_above from q)) (line_of Deleted q None m) [] (λ t k _. absurd (is_deleted k)) tt))
 
   created-move : (tree : Tree B) → AllByRecursion IsMove (filter_map (created from to) tree)
@@ -188,9 +192,11 @@ module _ {B : Type 0} (from to : Tree B) (is : IsPair from to) where
       each-cons : AllByRecursion IsMove (filter_map (created from to) es) → (o : Option Line) → ((one : Line) → o ≡ Some one → IsMove one) → AllByRecursion IsMove (cons_option o (filter_map (created from to) es))
       each-cons rest None h = rest
       each-cons rest (Some one) h = (h one refl, rest)
+
       above-none : (o : Option (Names × Node B)) (one : Line) → created_in e o ≡ Some one → IsMove one
       above-none None one h = absurd (none_some h)
       above-none (Some dir) one h = λ t k _. absurd (is_created (ap (λ (x : Line). x.kind) (same_some h) ∙ k))
+
       created-none : (o : Option (Names × Node B)) (one : Line) → created_by from to e o ≡ Some one → IsMove one
       created-none None one h = above-none (place_above from (id_above to e.0)) one h
       created-none (Some old) one h = absurd (none_some h)
@@ -202,9 +208,9 @@ module _ {B : Type 0} (from to : Tree B) (is : IsPair from to) where
   moved-source : (q : Names) (m : Node B) (other : Names × Node B) → node_at from q ≡ Some m → place_of to m.id ≡ Some other → same_place from to q other.0 ≡ false → is_source (report from to) q ≡ true
   moved-source q m other at h moved = source-with_lines (filter_map (created from to) to) (flat_map (lines_from from to) from) q
       (source-flat (lines_from from to) from q q m at
-        (ap (λ o. is_source (lines_by from to (q, m) o) q) h
-         ∙ ap (λ b. is_source (line_if (not b) (line_of Renamed q (Some other.0) m) (line_if (not (m.stamp == other.1.stamp)) (line_of Modified q None m) [])) q) moved
-         ∙ ap (λ b. b || is_source (line_if (not (m.stamp == other.1.stamp)) (line_of Modified q None m) []) q) (same-here q)))
+      (ap (λ o. is_source (lines_by from to (q, m) o) q) h
+      ∙ ap (λ b. is_source (line_if (not b) (line_of Renamed q (Some other.0) m) (line_if (not (m.stamp == other.1.stamp)) (line_of Modified q None m) [])) q) moved
+      ∙ ap (λ b. b || is_source (line_if (not (m.stamp == other.1.stamp)) (line_of Modified q None m) []) q) (same-here q)))
 
   -- ---- down from a source
 
@@ -227,8 +233,8 @@ module _ {B : Type 0} (from to : Tree B) (is : IsPair from to) where
       q
       (λ at same. absurd (not_last p n (sym (one_place from is.from_tree.each_once [] (p ++ n ∷ []) is.from_root c is.from_at c_at (is.same_root ∙ ap (λ (k : Node B). k.id.0) (same_some (sym is.to_at ∙ at)) ∙ id)))))
       (λ t name at same. let d : (dir : Node B) × (node_at to t ≡ Some dir) × (is_dir dir ≡ true) = dir-above to is.to_tree t name m at in
-        let so : (same_inode a.id d.0.id && bytes_eq n name) ≡ true = sym (same_place-at from to p t n name a d.0 here d.1) ∙ same in
-        (t, d.0, d.1, (Decides-eqb a.id.0 d.0.id.0).0 (first (same_inode a.id d.0.id) (bytes_eq n name) so), λ i. t ++ sym ((bytes_eq-Decides n name).0 (second (same_inode a.id d.0.id) (bytes_eq n name) so)) i ∷ []))
+      let so : (same_inode a.id d.0.id && bytes_eq n name) ≡ true = sym (same_place-at from to p t n name a d.0 here d.1) ∙ same in
+      (t, d.0, d.1, (Decides-eqb a.id.0 d.0.id.0).0 (first (same_inode a.id d.0.id) (bytes_eq n name) so), λ i. t ++ sym ((bytes_eq-Decides n name).0 (second (same_inode a.id d.0.id) (bytes_eq n name) so)) i ∷ []))
       at same
 
   below-gone : (r p : Names) (c x : Node B) → node_at from p ≡ Some c → place_of to c.id ≡ None → node_at from (p ++ r) ≡ Some x → NoSource p r → place_of to x.id ≡ None
@@ -242,9 +248,9 @@ module _ {B : Type 0} (from to : Tree B) (is : IsPair from to) where
           node_at from ((p ++ n ∷ []) ++ r) ≡ Some x → (d : Node B) → node_at from (p ++ n ∷ []) ≡ Some d → place_of to x.id ≡ None
       next again at2 d d_at = by_one (place_of to d.id)
           (λ place h. let so : (node_at to place.0 ≡ Some place.1) × (place.1.id.0 ≡ d.id.0) = place_of-so to d.id place is.to_tree.sorted h in by (same_place from to (p ++ n ∷ []) place.0)
-            (λ same. let t : (t : Names) × (b : Node B) × (node_at to t ≡ Some b) × (c.id.0 ≡ b.id.0) × (place.0 ≡ t ++ n ∷ []) = stays-below p place.0 n c d place.1 here so.0 same d_at so.1 in
-              absurd (place_of-missing to c.id t.0 t.1 gone t.2 (sym t.3)))
-            (λ moved. absurd (true_false (moved-source (p ++ n ∷ []) d place d_at h moved) (none n [] r refl))))
+          (λ same. let t : (t : Names) × (b : Node B) × (node_at to t ≡ Some b) × (c.id.0 ≡ b.id.0) × (place.0 ≡ t ++ n ∷ []) = stays-below p place.0 n c d place.1 here so.0 same d_at so.1 in
+          absurd (place_of-missing to c.id t.0 t.1 gone t.2 (sym t.3)))
+          (λ moved. absurd (true_false (moved-source (p ++ n ∷ []) d place d_at h moved) (none n [] r refl))))
           (λ lost. again d x d_at lost at2 (none-further p n r none))
 
   down : (r p t q : Names) (a b x m : Node B) → node_at from p ≡ Some a → node_at to t ≡ Some b → a.id.0 ≡ b.id.0 → node_at from (p ++ r) ≡ Some x → node_at to q ≡ Some m → x.id.0 ≡ m.id.0 → NoSource p r → t ++ r ≡ q
@@ -259,38 +265,39 @@ module _ {B : Type 0} (from to : Tree B) (is : IsPair from to) where
           node_at from ((p ++ n ∷ []) ++ r) ≡ Some x → (d : Node B) → node_at from (p ++ n ∷ []) ≡ Some d → t ++ n ∷ r ≡ q
       next again at2 d d_at = by_one (place_of to d.id)
           (λ place h. let so : (node_at to place.0 ≡ Some place.1) × (place.1.id.0 ≡ d.id.0) = place_of-so to d.id place is.to_tree.sorted h in by (same_place from to (p ++ n ∷ []) place.0)
-            (λ stays. let u : (t : Names) × (b : Node B) × (node_at to t ≡ Some b) × (a.id.0 ≡ b.id.0) × (place.0 ≡ t ++ n ∷ []) = stays-below p place.0 n a d place.1 here so.0 stays d_at so.1 in
-              let one : u.0 ≡ t = one_place to is.to_tree.each_once u.0 t u.1 b u.2 there (sym u.3 ∙ alike) in
-              sym (append_assoc t (n ∷ []) r)
-              ∙ again d place.1 x m d_at (ap (λ (y : Names). node_at to (y ++ n ∷ [])) (sym one) ∙ ap (node_at to) (sym u.4) ∙ so.0) (sym so.1) at2 q_at same (none-further p n r none))
-            (λ moved. absurd (true_false (moved-source (p ++ n ∷ []) d place d_at h moved) (none n [] r refl))))
+          (λ stays. let u : (t : Names) × (b : Node B) × (node_at to t ≡ Some b) × (a.id.0 ≡ b.id.0) × (place.0 ≡ t ++ n ∷ []) = stays-below p place.0 n a d place.1 here so.0 stays d_at so.1 in
+          let one : u.0 ≡ t = one_place to is.to_tree.each_once u.0 t u.1 b u.2 there (sym u.3 ∙ alike) in
+          sym (append_assoc t (n ∷ []) r)
+          ∙ again d place.1 x m d_at (ap (λ (y : Names). node_at to (y ++ n ∷ [])) (sym one) ∙ ap (node_at to) (sym u.4) ∙ so.0) (sym so.1) at2 q_at same (none-further p n r none))
+          (λ moved. absurd (true_false (moved-source (p ++ n ∷ []) d place d_at h moved) (none n [] r refl))))
           (λ lost. absurd (place_of-missing to x.id q m (below-gone r (p ++ n ∷ []) d x d_at lost at2 (none-further p n r none)) q_at (sym same)))
 
   -- a path of a node that both trees have is translated to its path in the second
   pub translated : (p q : Names) (x m : Node B) → node_at from p ≡ Some x → node_at to q ≡ Some m → x.id.0 ≡ m.id.0 → translate (report from to) p ≡ q
   translated p q x m at q_at same = by_one (longest (report from to) p)
       (λ f h. let line_is : Leads f.source f.target × (rest_below f.source p ≡ Some f.rest) = longest-is p Leads (report from to) report-moves f h in
-        let cut : p ≡ f.source ++ f.rest = rest-so f.source p f.rest line_is.1 in
-        ap (λ o. led p o) h
-        ∙ down f.rest f.source f.target q line_is.0.0 line_is.0.1 x m line_is.0.2 line_is.0.3 line_is.0.4 (ap (node_at from) (sym cut) ∙ at) q_at same
-          (λ n y z e. no-longer f h n y z (cut ∙ ap (λ (r : Names). f.source ++ r) e)))
+      let cut : p ≡ f.source ++ f.rest = rest-so f.source p f.rest line_is.1 in
+      ap (λ o. led p o) h
+      ∙ down f.rest f.source f.target q line_is.0.0 line_is.0.1 x m line_is.0.2 line_is.0.3 line_is.0.4 (ap (node_at from) (sym cut) ∙ at) q_at same
+      (λ n y z e. no-longer f h n y z (cut ∙ ap (λ (r : Names). f.source ++ r) e)))
       (λ none. ap (λ o. led p o) none
-        ∙ down p [] [] q is.from_root is.to_root x m is.from_at is.to_at is.same_root at q_at same
-          (λ n y z e. by (is_source (report from to) (n ∷ y))
-            (λ t. let there : (f : Lead) × (longest (report from to) p ≡ Some f) × (length (n ∷ y) ≤ length f.source) = longest-there p (report from to) (n ∷ y) z (ap (rest_below (n ∷ y)) e ∙ rest-here (n ∷ y) z) t in
-              absurd (none_some (sym none ∙ there.1)))
-            (λ f. f)))
+      ∙ down p [] [] q is.from_root is.to_root x m is.from_at is.to_at is.same_root at q_at same
+      (λ n y z e. by (is_source (report from to) (n ∷ y))
+      (λ t. let there : (f : Lead) × (longest (report from to) p ≡ Some f) × (length (n ∷ y) ≤ length f.source) = longest-there p (report from to) (n ∷ y) z (ap (rest_below (n ∷ y)) e ∙ rest-here (n ∷ y) z) t in
+      absurd (none_some (sym none ∙ there.1)))
+      (λ f. f)))
     where
       no-longer : (f : Lead) → longest (report from to) p ≡ Some f → (n : List ℕ) (y z : Names) → p ≡ f.source ++ ((n ∷ y) ++ z) → is_source (report from to) (f.source ++ n ∷ y) ≡ false
       no-longer f h n y z e = by (is_source (report from to) (f.source ++ n ∷ y))
           (λ t. let there : (g : Lead) × (longest (report from to) p ≡ Some g) × (length (f.source ++ n ∷ y) ≤ length g.source) =
-                longest-there p (report from to) (f.source ++ n ∷ y) z (ap (rest_below (f.source ++ n ∷ y)) (e ∙ sym (append_assoc f.source (n ∷ y) z)) ∙ rest-here (f.source ++ n ∷ y) z) t in
-            let same_one : g_is there.0 ≡ g_is f = ap g_is (same_some (sym there.1 ∙ h)) in
-            absurd (too-long f.source n y (length there.0.source) there.2 same_one))
+          longest-there p (report from to) (f.source ++ n ∷ y) z (ap (rest_below (f.source ++ n ∷ y)) (e ∙ sym (append_assoc f.source (n ∷ y) z)) ∙ rest-here (f.source ++ n ∷ y) z) t in
+          let same_one : g_is there.0 ≡ g_is f = ap g_is (same_some (sym there.1 ∙ h)) in
+          absurd (too-long f.source n y (length there.0.source) there.2 same_one))
           (λ g. g)
         where
           g_is : Lead → ℕ
           g_is g = length g.source
+
           too-long : (s : Names) (n : List ℕ) (y : Names) (k : ℕ) → length (s ++ n ∷ y) ≤ k → k ≡ length s → ⊥
           too-long s n y k le e = let l : length (s ++ n ∷ y) ≡ length s + length (n ∷ y) = length-append s (n ∷ y) in more (length s) (length y) k (subst (λ j. j ≤ k) l le) e
             where

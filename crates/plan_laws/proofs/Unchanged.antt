@@ -47,6 +47,7 @@ module _ {B : Type 0} (from to : Tree B) where
       by-above : (o : Option (Names × Node B)) → created_in e o ≡ Some one → is_out_line one ≡ false
       by-above None h = absurd (none_some h)
       by-above (Some dir) h = ap is_out_line (sym (same_some h))
+
       by-old : (o : Option (Names × Node B)) → created_by from to e o ≡ Some one → is_out_line one ≡ false
       by-old None h = by-above (place_above from (id_above to e.0)) h
       by-old (Some old) h = absurd (none_some h)
@@ -65,12 +66,15 @@ module _ {B : Type 0} (from to : Tree B) where
       modified-out : (b : Bool) → filter is_out_line (line_if b (line_of Modified e.0 None e.1) []) ≡ []
       modified-out true = refl
       modified-out false = refl
+
       deleted-out : (b : Bool) → map line_path (filter is_out_line (line_if b (line_of Deleted e.0 None e.1) [])) ≡ map path_of_place (cond b (e ∷ []) [])
       deleted-out true = refl
       deleted-out false = refl
+
       renamed-out : (b : Bool) (t : Names) (more : List Line) → filter is_out_line more ≡ [] → map line_path (filter is_out_line (line_if b (line_of Renamed e.0 (Some t) e.1) more)) ≡ map path_of_place (cond b (e ∷ []) [])
       renamed-out true t more h = ap (λ ls. e.0 ∷ map line_path ls) h
       renamed-out false t more h = ap (map line_path) h
+
       by-place : (o : Option (Names × Node B)) → map line_path (filter is_out_line (lines_by from to e o)) ≡ map path_of_place (cond (goes_by from to e.0 o) (e ∷ []) [])
       by-place None = deleted-out (has_id to (id_above from e.0))
       by-place (Some other) = renamed-out (not (same_place from to e.0 other.0)) other.0 (line_if (not (e.1.stamp == other.1.stamp)) (line_of Modified e.0 None e.1) []) (modified-out (not (e.1.stamp == other.1.stamp)))
@@ -148,16 +152,16 @@ module _ {B : Type 0} (from to : Tree B) (is : IsPair from to) (none : report fr
       (m : Node B) × (node_at to (p ++ n ∷ []) ≡ Some m) × (x.id.0 ≡ m.id.0)
   same-there p n a b x here there same at = by_one (place_of to x.id)
       (λ other h. let so : (node_at to other.0 ≡ Some other.1) × (other.1.id.0 ≡ x.id.0) = place_of-so to x.id other is.to_tree.sorted h in
-        by_same (p ++ n ∷ []) other.0
-          (λ e. (other.1, ap (node_at to) e ∙ so.0, sym so.1))
-          (λ ne. absurd (true_false
-            (not-not (same_place from to (p ++ n ∷ []) other.0) ((line_if-none (not (same_place from to (p ++ n ∷ []) other.0)) (line_of Renamed (p ++ n ∷ []) (Some other.0) x) (line_if (not (x.stamp == other.1.stamp)) (line_of Modified (p ++ n ∷ []) None x) [])
-              (sym (ap (lines_by from to (p ++ n ∷ [], x)) h) ∙ flat-none (lines_from from to) from (p ++ n ∷ []) x all-none.1 at)).0))
-            (moved_away from to is p p other.0 n a b x other.1 here there same at so.0 so.1 (λ e. ne (sym e))))))
+      by_same (p ++ n ∷ []) other.0
+      (λ e. (other.1, ap (node_at to) e ∙ so.0, sym so.1))
+      (λ ne. absurd (true_false
+      (not-not (same_place from to (p ++ n ∷ []) other.0) ((line_if-none (not (same_place from to (p ++ n ∷ []) other.0)) (line_of Renamed (p ++ n ∷ []) (Some other.0) x) (line_if (not (x.stamp == other.1.stamp)) (line_of Modified (p ++ n ∷ []) None x) [])
+      (sym (ap (lines_by from to (p ++ n ∷ [], x)) h) ∙ flat-none (lines_from from to) from (p ++ n ∷ []) x all-none.1 at)).0))
+      (moved_away from to is p p other.0 n a b x other.1 here there same at so.0 so.1 (λ e. ne (sym e))))))
       (λ lost. absurd (true_false
-        (ap (has_id to) (id_above-at from p n a here) ∙ ap is_some (place_of-here to is.to_tree p b a.id there same))
-        ((line_if-none (has_id to (id_above from (p ++ n ∷ []))) (line_of Deleted (p ++ n ∷ []) None x) []
-          (sym (ap (lines_by from to (p ++ n ∷ [], x)) lost) ∙ flat-none (lines_from from to) from (p ++ n ∷ []) x all-none.1 at)).0)))
+      (ap (has_id to) (id_above-at from p n a here) ∙ ap is_some (place_of-here to is.to_tree p b a.id there same))
+      ((line_if-none (has_id to (id_above from (p ++ n ∷ []))) (line_of Deleted (p ++ n ∷ []) None x) []
+      (sym (ap (lines_by from to (p ++ n ∷ [], x)) lost) ∙ flat-none (lines_from from to) from (p ++ n ∷ []) x all-none.1 at)).0)))
     where
       by_same : {P : Type 0} (p q : Names) → (p ≡ q → P) → ((p ≡ q → ⊥) → P) → P
       by_same p q same other = either p q same other
@@ -166,14 +170,14 @@ module _ {B : Type 0} (from to : Tree B) (is : IsPair from to) (none : report fr
   none-new : (p : Names) (n : List ℕ) (a b m : Node B) → node_at from p ≡ Some a → node_at to p ≡ Some b → a.id.0 ≡ b.id.0 → node_at from (p ++ n ∷ []) ≡ None → node_at to (p ++ n ∷ []) ≡ Some m → ⊥
   none-new p n a b m here there same gone at = by_one (place_of from m.id)
       (λ old h. let so : (node_at from old.0 ≡ Some old.1) × (old.1.id.0 ≡ m.id.0) = place_of-so from m.id old is.from_tree.sorted h in
-        true_false
-          (not-not (same_place from to old.0 (p ++ n ∷ [])) ((line_if-none (not (same_place from to old.0 (p ++ n ∷ []))) (line_of Renamed old.0 (Some (p ++ n ∷ [])) old.1) (line_if (not (old.1.stamp == m.stamp)) (line_of Modified old.0 None old.1) [])
-            (sym (ap (lines_by from to (old.0, old.1)) (place_of-here to is.to_tree (p ++ n ∷ []) m old.1.id at so.1)) ∙ flat-none (lines_from from to) from old.0 old.1 all-none.1 so.0)).0))
-          (moved_here from to is p p old.0 n a b old.1 m here there same so.0 at so.1 (λ e. none_some (sym gone ∙ ap (node_at from) (sym e) ∙ so.0))))
+      true_false
+      (not-not (same_place from to old.0 (p ++ n ∷ [])) ((line_if-none (not (same_place from to old.0 (p ++ n ∷ []))) (line_of Renamed old.0 (Some (p ++ n ∷ [])) old.1) (line_if (not (old.1.stamp == m.stamp)) (line_of Modified old.0 None old.1) [])
+      (sym (ap (lines_by from to (old.0, old.1)) (place_of-here to is.to_tree (p ++ n ∷ []) m old.1.id at so.1)) ∙ flat-none (lines_from from to) from old.0 old.1 all-none.1 so.0)).0))
+      (moved_here from to is p p old.0 n a b old.1 m here there same so.0 at so.1 (λ e. none_some (sym gone ∙ ap (node_at from) (sym e) ∙ so.0))))
       (λ new. none_some (sym (sym (ap (created_by from to (p ++ n ∷ [], m)) new
-          ∙ ap (λ o. created_in (p ++ n ∷ [], m) (place_above from o)) (id_above-at to p n b there)
-          ∙ ap (created_in (p ++ n ∷ [], m)) (place_of-here from is.from_tree p a b.id here (sym same)))
-          ∙ filter_map-none (created from to) to (p ++ n ∷ []) m all-none.0 at)))
+      ∙ ap (λ o. created_in (p ++ n ∷ [], m) (place_above from o)) (id_above-at to p n b there)
+      ∙ ap (created_in (p ++ n ∷ [], m)) (place_of-here from is.from_tree p a b.id here (sym same)))
+      ∙ filter_map-none (created from to) to (p ++ n ∷ []) m all-none.0 at)))
 
   same-below : (r p : Names) (a b : Node B) → node_at from p ≡ Some a → node_at to p ≡ Some b → a.id.0 ≡ b.id.0 → option_map (λ (x : Node B). x.body) (node_at from (p ++ r)) ≡ option_map (λ (x : Node B). x.body) (node_at to (p ++ r))
   same-below [] p a b here there same =
@@ -189,18 +193,20 @@ module _ {B : Type 0} (from to : Tree B) (is : IsPair from to) (none : report fr
     where
       seen : Tree B → Names → Option (Body B)
       seen tree q = option_map (λ (x : Node B). x.body) (node_at tree q)
+
       none-all : (tree : Tree B) → IsTree tree → (r q : Names) → node_at tree q ≡ None → node_at tree (q ++ r) ≡ None
       none-all tree whole [] q gone = ap (node_at tree) (append-nil q) ∙ gone
       none-all tree whole (m ∷ r) q gone = ap (node_at tree) (sym (append_assoc q (m ∷ []) r)) ∙ none-all tree whole r (q ++ m ∷ []) (none-below tree whole q m gone)
+
       next : ((a b : Node B) → node_at from (p ++ n ∷ []) ≡ Some a → node_at to (p ++ n ∷ []) ≡ Some b → a.id.0 ≡ b.id.0 → option_map (λ (x : Node B). x.body) (node_at from ((p ++ n ∷ []) ++ r)) ≡ option_map (λ (x : Node B). x.body) (node_at to ((p ++ n ∷ []) ++ r))) →
           option_map (λ (x : Node B). x.body) (node_at from (p ++ n ∷ r)) ≡ option_map (λ (x : Node B). x.body) (node_at to (p ++ n ∷ r))
       next again =
           ap (λ (q : Names). option_map (λ (x : Node B). x.body) (node_at from q)) (sym (append_assoc p (n ∷ []) r))
           ∙ by_one (node_at from (p ++ n ∷ []))
-            (λ x at. let m : (m : Node B) × (node_at to (p ++ n ∷ []) ≡ Some m) × (x.id.0 ≡ m.id.0) = same-there p n a b x here there same at in again x m.0 at m.1 m.2)
-            (λ gone. by_one (node_at to (p ++ n ∷ []))
-              (λ m at. absurd (none-new p n a b m here there same gone at))
-              (λ lost. ap (option_map (λ (x : Node B). x.body)) (none-all from is.from_tree r (p ++ n ∷ []) gone) ∙ sym (ap (option_map (λ (x : Node B). x.body)) (none-all to is.to_tree r (p ++ n ∷ []) lost))))
+          (λ x at. let m : (m : Node B) × (node_at to (p ++ n ∷ []) ≡ Some m) × (x.id.0 ≡ m.id.0) = same-there p n a b x here there same at in again x m.0 at m.1 m.2)
+          (λ gone. by_one (node_at to (p ++ n ∷ []))
+          (λ m at. absurd (none-new p n a b m here there same gone at))
+          (λ lost. ap (option_map (λ (x : Node B). x.body)) (none-all from is.from_tree r (p ++ n ∷ []) gone) ∙ sym (ap (option_map (λ (x : Node B). x.body)) (none-all to is.to_tree r (p ++ n ∷ []) lost))))
           ∙ ap (λ (q : Names). option_map (λ (x : Node B). x.body) (node_at to q)) (append_assoc p (n ∷ []) r)
 
   -- where a report has no line, both trees hold the same

@@ -23,12 +23,14 @@ use Rattle.plan_laws.proofs.Natural.{through, outs-through, puts-through, made-t
 -- what holds at each call's path
 pub each-call : (P : Names → Type 0) (calls : List CopyCall) → ((path : Names) → (filter (is_at path) calls ≡ [] → ⊥) → P path) → AllByRecursion (λ call. P (path_of_call call)) calls
 each-call P [] all = tt
-each-call P (call ∷ calls) all =
-    (all (path_of_call call) (λ e. full (sym (ap (λ b. cond b (call ∷ filter (is_at (path_of_call call)) calls) (filter (is_at (path_of_call call)) calls)) (same-here (path_of_call call))) ∙ e)),
-     each-call P calls (λ path there. all path (λ e. there (less path e))))
+each-call P (call ∷ calls) all = (
+  all (path_of_call call) (λ e. full (sym (ap (λ b. cond b (call ∷ filter (is_at (path_of_call call)) calls) (filter (is_at (path_of_call call)) calls)) (same-here (path_of_call call))) ∙ e)),
+  each-call P calls (λ path there. all path (λ e. there (less path e))),
+)
   where
     full : {rest : List CopyCall} → call ∷ rest ≡ [] → ⊥
     full e = cc
+
     less : (path : Names) → filter (is_at path) (call ∷ calls) ≡ [] → filter (is_at path) calls ≡ []
     less path e = (elim (is_at path call) as (λ b. cond b (call ∷ filter (is_at path) calls) (filter (is_at path) calls) ≡ [] → filter (is_at path) calls ≡ []) [
       | true ↦ λ e. absurd (full e)
@@ -36,10 +38,9 @@ each-call P (call ∷ calls) all =
     ]) e
 
 module _ (from to : Tree (List ℕ)) (is : IsPair from to) (tmp : List ℕ) (number : ℕ → List ℕ) (once : (i j : ℕ) → number i ≡ number j → i ≡ j)
-  (from_free : node_at from (tmp ∷ []) ≡ None) (to_free : node_at to (tmp ∷ []) ≡ None)
-  (target : Contents) (equal : (q : Names) → target q ≡ content_of (node_at from q))
-  (pages : Names → List (List ℕ)) (calls : List CopyCall) (merging : IsMerging from to pages calls) where
-
+    (from_free : node_at from (tmp ∷ []) ≡ None) (to_free : node_at to (tmp ∷ []) ≡ None)
+    (target : Contents) (equal : (q : Names) → target q ≡ content_of (node_at from q))
+    (pages : Names → List (List ℕ)) (calls : List CopyCall) (merging : IsMerging from to pages calls) where
   abbrev body : Node (List ℕ) → Content
   body node = node.body
 
@@ -104,7 +105,7 @@ module _ (from to : Tree (List ℕ)) (is : IsPair from to) (tmp : List ℕ) (num
   fits : (q : Names) → FitHere (filter (is_at q) calls) (seen q)
   fits q = by-copied q
       (λ m at copied. subst (λ (cs : List CopyCall). FitHere cs (seen q)) (sym (merging.at_copy q m at copied))
-        (ap not (ap is_dir_seen (seen-at q) ∙ no-dir-there (over_puts q) (node_at to q) m (stands q (to-outside q m at)) at (file-copied q m copied)), appends-fit q (pages q) []))
+      (ap not (ap is_dir_seen (seen-at q) ∙ no-dir-there (over_puts q) (node_at to q) m (stands q (to-outside q m at)) at (file-copied q m copied)), appends-fit q (pages q) []))
       (λ other. subst (λ (cs : List CopyCall). FitHere cs (seen q)) (sym (merging.elsewhere q other)) tt)
 
   dir-there : (q : Names) (d : Node (List ℕ)) → node_at to q ≡ Some d → is_dir d ≡ true → is_dir_seen (seen q) ≡ true
@@ -119,7 +120,7 @@ module _ (from to : Tree (List ℕ)) (is : IsPair from to) (tmp : List ℕ) (num
   above-copied q m at copied = by_last (λ q. node_at to q ≡ Some m → is_copied from (q, m) ≡ true → is_dir_seen (seen (parent_of q)) ≡ true) q
       (λ at copied. absurd (true_false (sym (is.one_kind [] [] is.from_root is.to_root is.from_at is.to_at is.same_root) ∙ is.root_dir) (ap is_dir (same_some (sym is.to_at ∙ at)) ∙ file-copied [] m copied)))
       (λ above name at copied. let d : (dir : Node (List ℕ)) × (node_at to above ≡ Some dir) × (is_dir dir ≡ true) = dir-above to is.to_tree above name m at in
-        ap (λ (p : Names). is_dir_seen (seen p)) (parent_of-last above name) ∙ dir-there above d.0 d.1 d.2)
+      ap (λ (p : Names). is_dir_seen (seen p)) (parent_of-last above name) ∙ dir-there above d.0 d.1 d.2)
       at copied
 
   all-above : AllByRecursion (λ call. is_dir_seen (seen (parent_of (path_of_call call))) ≡ true) calls
@@ -143,6 +144,7 @@ module _ (from to : Tree (List ℕ)) (is : IsPair from to) (tmp : List ℕ) (num
       alike : (o : Option (Node (List ℕ))) → Both (Alike from) o (Some m) → content_of o ≡ Some m.body
       alike None h = absurd h
       alike (Some a) h = ap (λ (x : Content). Some x) (h.same_body (other m refl))
+
       new-copied : (is_dir m || is_some (place_of from m.id)) ≡ false → is_copied from ([], m) ≡ true
       new-copied f = by-parts (is_dir m) (place_of from m.id) f
         where
@@ -154,19 +156,19 @@ module _ (from to : Tree (List ℕ)) (is : IsPair from to) (tmp : List ℕ) (num
   copied-at : (q : Names) → rest_below (tmp ∷ []) q ≡ None → calls_done seen calls q ≡ content_of (node_at to q)
   copied-at q out = calls-here calls seen q ∙ by-copied q
       (λ m at copied.
-        ap (λ (cs : List CopyCall). all_here cs (seen q)) (merging.at_copy q m at copied)
-        ∙ appends-here q (pages q) []
-        ∙ ap (λ (x : Content). Some x) (sym (merging.bytes q m at copied))
-        ∙ ap content_of (sym at))
+      ap (λ (cs : List CopyCall). all_here cs (seen q)) (merging.at_copy q m at copied)
+      ∙ appends-here q (pages q) []
+      ∙ ap (λ (x : Content). Some x) (sym (merging.bytes q m at copied))
+      ∙ ap content_of (sym at))
       (λ other.
-        ap (λ (cs : List CopyCall). all_here cs (seen q)) (merging.elsewhere q other)
-        ∙ seen-at q
-        ∙ kept-body (over_puts q) (node_at to q) (stands q out) other)
+      ap (λ (cs : List CopyCall). all_here cs (seen q)) (merging.elsewhere q other)
+      ∙ seen-at q
+      ∙ kept-body (over_puts q) (node_at to q) (stands q out) other)
 
   pub sync-equal : (q : Names) → after_sync tmp number from to calls target q ≡ content_of (node_at to q)
   sync-equal q = by_one (rest_below (tmp ∷ []) q)
       (λ r below. ap (λ o. inside_or o (λ rest. None) (calls_done seen calls q)) below
-        ∙ sym (ap content_of (ap (node_at to) (rest-so (tmp ∷ []) q r below) ∙ none-under from to is tmp number once top refl from_free to_free to is.to_tree r (tmp ∷ []) to_free)))
+      ∙ sym (ap content_of (ap (node_at to) (rest-so (tmp ∷ []) q r below) ∙ none-under from to is tmp number once top refl from_free to_free to is.to_tree r (tmp ∷ []) to_free)))
       (λ none. ap (λ o. inside_or o (λ rest. None) (calls_done seen calls q)) none ∙ copied-at q none)
 
   pub sync-goes : SyncGoes tmp number from to calls target
