@@ -30,7 +30,7 @@ use Rattle.hs_plain.proofs.ValidAsked.{same_ok}
 use Rattle.hs_plain.proofs.ValidNodes.{shape, shape_some}
 use Rattle.hs_plain.proofs.ValidShapes.{Shape}
 use Rattle.hs_plain.proofs.Validity.{valid-after}
-use Rattle.plan_laws.specs.Sight.{moved_sight, made_sight, outs_done, Placing, Back, New, targets, puts_done, IsOutside as IsNotIn, OutsGo, PutsGo}
+use Rattle.plan_laws.specs.Sight.{moved_sight, made_sight, outs_done, Placing, Back, New, targets, puts_done, IsNotIn, OutsGo, PutsGo}
 use Rattle.plan_laws.specs.Placings.{placing_at, placings}
 use Rattle.plan_laws.specs.Pair.{IsTree, IsPair}
 use Rattle.plan_laws.specs.Copies.{Content, Contents, CopyCall, Create, Append, path_of_call, call_done, calls_done, CallGoes, CallsGo, is_dir_seen, is_file_seen, without_sight, content_of, content_put, after_outs, after_puts, after_sync, IsMerging, SyncGoes}
