@@ -1,5 +1,5 @@
 -- A call whose paths are neither the root nor above or below it changes nothing there.
-use Rattle.std.proofs.Common.{◌≡◌, ℕ, ◌+◌, Bool, true, false, cond, is_some, Some, None, Ok, Err, List, [], ◌∷◌, ◌++◌, refl, ap, sym, ◌∙◌, append-nil, append_assoc}
+use Rattle.std.proofs.Common.{◌≡◌, ℕ, ◌+◌, Bool, true, false, cond, is_some, Some, None, Ok, Err, List, [], ◌∷◌, ◌++◌, refl, ap, sym, ◌∙◌, append-nil}
 use Rattle.std.specs.Prelude.{not, ◌≢◌}
 use Rattle.std.specs.List.{list_any}
 use Rattle.std.specs.Ordering.{eq_by_cmp}
@@ -12,17 +12,16 @@ use Rattle.hs_types.specs.declared.call.Call.{Call}
 use Rattle.hs_types.specs.declared.call.Call.TheVariants as calls
 use Rattle.hs_plain.specs.declared.state.Node.{Node}
 use Rattle.hs_plain.specs.declared.state.State.{State}
-use Rattle.hs_plain.specs.Asked.{Asked, ◌>>=◌, both, refuse_if}
+use Rattle.hs_plain.specs.Asked.{Asked, both, refuse_if}
 use Rattle.hs_plain.specs.Files.{plain_files}
 use Rattle.hs_plain.specs.Tree.{Tree, path_cmp, node_at, parent_of, is_dir, is_root_path, same_path, walk, walks_above}
 use Rattle.hs_plain.specs.State.{new_dir, is_snapshottable, has_snapshots, holds_snapshots}
-use Rattle.hs_plain.specs.Places.{IsOutside}
 use Rattle.hs_plain.specs.Span.{paths_in, is_near}
 use Rattle.hs_plain.specs.Modifying.{live_path, mkdir_at, create_at, takes_place_of, append_at, file_in, delete_at, spares_children, rename_at, set_mode_at, may_move}
 use Rattle.hs_plain.specs.Snapshotting.{directory_at, allow_at, disallow_at, snap_at, snap_del_at, snap_ren_at}
 use Rattle.hs_plain.specs.Change.{stamped, without, moved, new_file, with_node, made_dir, made_file, refilled, appended, removed, renamed, with_mode, if_asked, change, moded, remode, allowed, disallowed, snapped, unsnapped, resnapped}
 use Rattle.hs_plain.specs.Plan.{rest_below}
-use Rattle.hs_plain.proofs.ValidShapes.{none_some, other-test, true_false}
+use Rattle.hs_plain.proofs.ValidShapes.{none_some, other-test}
 use Rattle.hs_plain.proofs.ValidChanges.{apart_test, node_at-put, node_at-without}
 use Rattle.hs_plain.proofs.ValidAsked.{MayMove, rename_allowed, same_ok, ok_then, dir_there}
 use Rattle.hs_plain.proofs.ValidLists.{neither_first, neither_second}
@@ -32,7 +31,7 @@ use Rattle.plan_laws.specs.Sight.{inside_or}
 use Rattle.plan_laws.specs.Pair.{IsTree}
 use Rattle.plan_laws.specs.Copies.{content_of}
 use Rattle.plan_laws.specs.Bridge.{held}
-use Rattle.plan_laws.proofs.Paths.{by, by_one, rest-here, rest-so}
+use Rattle.plan_laws.proofs.Paths.{by_one, rest-here, rest-so}
 use Rattle.plan_laws.proofs.Bridge.{not-under, node_at-moved, content-stamped}
 use Rattle.plan_laws.proofs.Near.{IsApart, near-apart}
 

@@ -1,10 +1,8 @@
 -- The plain machine's calls below a root, as changes of what stands at each path there.
-use Rattle.std.proofs.Common.{◌≡◌, ℕ, ◌+◌, Bool, true, false, bytes_eq, cond, Option, Some, None, Ok, Err, is_some, List, [], ◌∷◌, ◌++◌, length, refl, ap, sym, ◌∙◌, append-nil, append_assoc}
+use Rattle.std.proofs.Common.{◌≡◌, ℕ, ◌+◌, Bool, true, false, cond, Option, Some, None, Ok, Err, is_some, List, [], ◌∷◌, ◌++◌, length, refl, ap, sym, ◌∙◌, append-nil, append_assoc}
 use Rattle.std.specs.Prelude.{not, ◌≢◌, ◌&&◌, nat_lt}
-use Rattle.std.specs.List.{starts_with}
 use Rattle.std.specs.Option.{option_map}
 use Rattle.std.specs.Ordering.{eq_by_cmp}
-use Rattle.std.specs.FinMap.Entries.{find-where_key}
 use Rattle.std.proofs.lemmas.List.{append_cancel_left}
 use Rattle.hs_types.specs.Names.{Names}
 use Rattle.hs_types.specs.declared.refusal.Refusal.TheVariants.{NotDir, Exists, IsRoot, IntoItself, NotFile, NotEmpty, HasSnapshots, Nested}
@@ -16,11 +14,10 @@ use Rattle.hs_plain.specs.Files.{plain_files}
 use Rattle.hs_plain.specs.Tree.{Tree, path_cmp, node_at, passes, walks_from, walks_above, walk, found, is_dir, is_dir_body, parent_of, is_root_path, is_above, same_path}
 use Rattle.hs_plain.specs.State.{new_dir, holds_snapshots, holds_snapshottable, is_in_snapshottable}
 use Rattle.hs_plain.specs.Modifying.{live_path, mkdir_at, create_at, takes_place_of, append_at, file_in, delete_at, spares_children, rename_at, may_move, would_nest}
-use Rattle.hs_plain.specs.Change.{restamp, stamped, without, repath, moved, new_file, made_dir, made_file, with_node, removed, renamed, appended, refilled, if_asked, change}
+use Rattle.hs_plain.specs.Change.{restamp, stamped, without, moved, new_file, made_dir, made_file, with_node, removed, renamed, appended, refilled, if_asked, change}
 use Rattle.hs_plain.proofs.ValidShapes.{none_some, same_some, true_false, by_last, parent_of-last, same-itself, other-test, under_test}
 use Rattle.hs_plain.proofs.Trees.{moved-below, moved-elsewhere, without-below, without-elsewhere}
 use Rattle.hs_plain.proofs.ValidChanges.{apart_test, node_at-put, node_at-without}
-use Rattle.hs_plain.proofs.ValidTrees.{paths_exact}
 use Rattle.hs_plain.specs.Plan.{rest_below}
 use Rattle.plan_laws.specs.Sight.{Sight, inside_or, moved_sight, at_top, made_sight, Goes, Makes}
 use Rattle.plan_laws.specs.Pair.{IsTree}

@@ -1,27 +1,22 @@
 -- A sync in a journal: a valid target ends with the second tree.
-use Rattle.std.proofs.Common.{◌≡◌, ℕ, Bool, true, Some, List, [], ◌∷◌, map, refl, ap, sym, ◌∙◌}
+use Rattle.std.proofs.Common.{◌≡◌, ℕ, Bool, true, Some, List, [], map, refl, ap, sym, ◌∙◌}
 use Rattle.std.specs.List.{AllByRecursion}
 use Rattle.std.specs.Option.{option_map}
 use Rattle.hs_types.specs.Names.{Names}
-use Rattle.hs_types.specs.Paths.{components}
-use Rattle.hs_types.specs.declared.call.Call.{Call}
 use Rattle.hs_types.specs.declared.journal.Entry.{Entry}
-use Rattle.hs_plain.specs.declared.state.Node.{Node}
 use Rattle.hs_plain.specs.declared.state.State.{State}
 use Rattle.hs_plain.specs.Files.{plain_files}
-use Rattle.hs_plain.specs.Tree.{Tree, node_at, is_dir, subtree}
-use Rattle.hs_plain.specs.Valid.{IsValid}
+use Rattle.hs_plain.specs.Tree.{Tree, node_at, subtree}
 use Rattle.hs_plain.specs.Replay.{replay_from}
 use Rattle.hs_plain.specs.Plan.{AreEqual}
-use Rattle.hs_plain.proofs.ValidShapes.{Shape, same_some}
 use Rattle.hs_plain.proofs.ValidLists.{In}
-use Rattle.hs_plain.proofs.ValidNodes.{shape, shapes, shape_some}
+use Rattle.hs_plain.proofs.ValidNodes.{shape, shapes}
 use Rattle.hs_plain.proofs.ValidDirs.{listed_so}
 use Rattle.hs_plain.proofs.ValidFollows.{live_tree, live_dirs}
 use Rattle.hs_plain.proofs.Validity.{valid-replay_from}
 use Rattle.plan_laws.specs.Copies.{Contents, CopyCall, IsMerging, content_of}
 use Rattle.plan_laws.specs.Bridge.{held}
-use Rattle.plan_laws.specs.Steps.{plan_steps, step_call, StepLeads, HasFirst, AreOk, steps_done}
+use Rattle.plan_laws.specs.Steps.{plan_steps, step_call, StepLeads, HasFirst, AreOk}
 use Rattle.plan_laws.specs.Target.{IsBegun, IsTarget}
 use Rattle.plan_laws.proofs.Near.{live-is}
 use Rattle.plan_laws.proofs.Whole.{sync-equal}

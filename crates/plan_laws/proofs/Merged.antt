@@ -1,17 +1,15 @@
 -- A merging of the calls of copies, told by the numbers of their lists, is one told by paths.
-use Rattle.std.proofs.Common.{◌≡◌, ℕ, zero, suc, ◌+◌, ◌<◌, ◌≤◌, ◌==◌, Bool, true, false, cond, Option, Some, None, List, [], ◌∷◌, ◌++◌, map, length, take, drop, refl, ap, sym, subst, ◌∙◌, arith}
+use Rattle.std.proofs.Common.{◌≡◌, ℕ, zero, suc, ◌<◌, ◌≤◌, ◌==◌, true, false, cond, Some, List, [], ◌∷◌, ◌++◌, map, length, take, drop, refl, ap, sym, subst, ◌∙◌, arith}
 use Rattle.std.specs.Prelude.{slice_get}
 use Rattle.std.specs.List.{filter, AllByRecursion}
-use Rattle.std.specs.Option.{unwrap_or, option_map}
-use Rattle.std.proofs.lemmas.Bool.Decides.{Decides-eqb, nat_tests}
-use Rattle.std.proofs.lemmas.Option.{slice_get-map}
+use Rattle.std.proofs.lemmas.Bool.Decides.{Decides-eqb}
 use Rattle.std.proofs.lemmas.List.{take-append-drop}
 use Rattle.hs_types.specs.Names.{Names}
 use Rattle.hs_types.specs.Limits.{block_size}
 use Rattle.hs_plain.specs.Tree.{same_path}
 use Rattle.hs_plain.specs.Plan.{numbered_so, pages_of}
-use Rattle.hs_plain.proofs.ValidShapes.{none_some, same_some, true_false}
-use Rattle.plan_laws.specs.Copies.{CopyCall, Create, Append, path_of_call, is_at, joined, appends, copy_calls}
+use Rattle.hs_plain.proofs.ValidShapes.{same_some, true_false}
+use Rattle.plan_laws.specs.Copies.{CopyCall, path_of_call, is_at, joined}
 use Rattle.plan_laws.proofs.Paths.{by}
 use Rattle.plan_laws.proofs.Lists.{same-so, same-here}
 

@@ -11,7 +11,7 @@ use Rattle.hs_plain.proofs.ValidTrees.{first, second}
 use Rattle.hs_plain.proofs.ValidShapes.{none_some, same_some, true_false, by_last, not_last}
 use Rattle.hs_plain.proofs.ValidPlaces.{head_at, in_tail, by_place, missing_below, one_place}
 use Rattle.hs_plain.specs.Plan.{rest_below, goes_by, goes, outs, index_of}
-use Rattle.plan_laws.specs.Sight.{Sight, Placing, Back, New, target, targets, hits, unless, cuts, is_in, inside_or, at_top, made_sight, outs_done, puts_done, NoneBelow, Rises, IsOutside, OutsGo, PutsGo, Ready, IsOther, NumberOnce, IsLinked, Stands}
+use Rattle.plan_laws.specs.Sight.{Sight, Placing, Back, New, target, targets, hits, unless, cuts, is_in, inside_or, at_top, made_sight, outs_done, puts_done, NoneBelow, Rises, IsNotIn, OutsGo, PutsGo, Ready, IsOther, NumberOnce, IsLinked, Stands}
 use Rattle.hs_plain.specs.Report.{same_place, last_of}
 use Rattle.plan_laws.specs.Placings.{placing_by, placing_at, placings}
 use Rattle.plan_laws.specs.Pair.{IsTree, IsPair, if_old, old_sight, Alike}
@@ -107,12 +107,12 @@ module _ {B : Type 0} (from to : Tree B) (is : IsPair from to) (tmp : List ℕ) 
   none-under tree whole [] p none = ap (node_at tree) (append-nil p) ∙ none
   none-under tree whole (n ∷ r) p none = ap (node_at tree) (sym (append_assoc p (n ∷ []) r)) ∙ none-under tree whole r (p ++ n ∷ []) (none-below tree whole p n none)
 
-  pub outside : (tree : Tree B) → IsTree tree → node_at tree (tmp ∷ []) ≡ None → (above : Names) (name : List ℕ) (m : Node B) → node_at tree (above ++ name ∷ []) ≡ Some m → IsOutside tmp (above ++ name ∷ [])
+  pub outside : (tree : Tree B) → IsTree tree → node_at tree (tmp ∷ []) ≡ None → (above : Names) (name : List ℕ) (m : Node B) → node_at tree (above ++ name ∷ []) ≡ Some m → IsNotIn tmp (above ++ name ∷ [])
   outside tree whole free [] name m at = λ e. none_some (sym free ∙ ap (λ (x : List ℕ). node_at tree (x ∷ [])) (sym e) ∙ at)
   outside tree whole free (a ∷ above) name m at = λ e. none_some (sym (none-under tree whole (above ++ name ∷ []) (tmp ∷ []) free) ∙ ap (λ (x : List ℕ). node_at tree (x ∷ above ++ name ∷ [])) (sym e) ∙ at)
 
-  pub outside-so : (tree : Tree B) → IsTree tree → node_at tree (tmp ∷ []) ≡ None → (q : Names) (m : Node B) → (q ≡ [] → ⊥) → node_at tree q ≡ Some m → IsOutside tmp q
-  outside-so tree whole free q m below at = by_last (λ q. (q ≡ [] → ⊥) → node_at tree q ≡ Some m → IsOutside tmp q) q (λ below at. below refl) (λ above name below at. outside tree whole free above name m at) below at
+  pub outside-so : (tree : Tree B) → IsTree tree → node_at tree (tmp ∷ []) ≡ None → (q : Names) (m : Node B) → (q ≡ [] → ⊥) → node_at tree q ≡ Some m → IsNotIn tmp q
+  outside-so tree whole free q m below at = by_last (λ q. (q ≡ [] → ⊥) → node_at tree q ≡ Some m → IsNotIn tmp q) q (λ below at. below refl) (λ above name below at. outside tree whole free above name m at) below at
 
   begun-outside : (q : Names) → rest_below (tmp ∷ []) q ≡ None → begun q ≡ node_at from q
   begun-outside q out = ap (λ o. inside_or o (at_top top (node_at from q)) (node_at from q)) out
@@ -134,8 +134,8 @@ module _ {B : Type 0} (from to : Tree B) (is : IsPair from to) (tmp : List ℕ) 
   each-out : (P : Names → Type 0) → ((p : Names) (x : Node B) → node_at from p ≡ Some x → goes from to (p, x) ≡ true → P p) → AllByRecursion P (outs from to)
   each-out P all = each-reverse P (map path_of_place (filter (goes from to) from)) (each-filter P (goes from to) from is.from_tree.sorted all)
 
-  pub outs-outside-tmp : AllByRecursion (IsOutside tmp) (outs from to)
-  outs-outside-tmp = each-out (IsOutside tmp) (λ p x at go. outside-so from is.from_tree from_free p x (goes-below p x at go) at)
+  pub outs-outside-tmp : AllByRecursion (IsNotIn tmp) (outs from to)
+  outs-outside-tmp = each-out (IsNotIn tmp) (λ p x at go. outside-so from is.from_tree from_free p x (goes-below p x at go) at)
 
   pub outs-fall : NoneBelow (outs from to)
   outs-fall = pairwise-reverse (λ path later. rest_below later path ≡ None) (map path_of_place (filter (goes from to) from)) (rises-filter (goes from to) from is.from_tree.sorted)
@@ -211,8 +211,8 @@ module _ {B : Type 0} (from to : Tree B) (is : IsPair from to) (tmp : List ℕ) 
   held p is_out r =
       let at : (before : List Names) × (after : List Names) × (outs from to ≡ before ++ p ∷ after) × (index_of (outs from to) p ≡ length before) = split (outs from to) p is_out in
       let fall : NoneBelow (at.0 ++ p ∷ at.1) = subst NoneBelow at.2 outs-fall in
-      let out : AllByRecursion (IsOutside tmp) (at.0 ++ p ∷ at.1) = subst (AllByRecursion (IsOutside tmp)) at.2 outs-outside-tmp in
-      let p_out : IsOutside tmp p = each-middle at.0 p at.1 out in
+      let out : AllByRecursion (IsNotIn tmp) (at.0 ++ p ∷ at.1) = subst (AllByRecursion (IsNotIn tmp)) at.2 outs-outside-tmp in
+      let p_out : IsNotIn tmp p = each-middle at.0 p at.1 out in
       ap (λ (paths : List Names). outs_done tmp number begun 0 paths (tmp ∷ number (index_of (outs from to) p) ∷ r)) at.2
       ∙ ap (λ i. outs_done tmp number begun 0 (at.0 ++ p ∷ at.1) (tmp ∷ number i ∷ r)) {y = 0 + length at.0} (let e : index_of (outs from to) p ≡ length at.0 = at.3 in omega arith)
       ∙ outs-inside tmp number once at.0 p at.1 begun 0 r (each-front at.0 p at.1 out) p_out (each-back at.0 p at.1 out)
@@ -220,15 +220,15 @@ module _ {B : Type 0} (from to : Tree B) (is : IsPair from to) (tmp : List ℕ) 
       ∙ ap (λ b. unless b (node_at from (p ++ r))) (hits-left at.0 p at.1 r (pairwise-before (λ path later. rest_below path later ≡ None) at.0 p at.1 fall) (pairwise-after (λ path later. rest_below path later ≡ None) at.0 p at.1 fall))
       ∙ ap (λ (paths : List Names). unless (cuts (λ x. is_in paths (p ++ x)) r) (node_at from (p ++ r))) (sym at.2)
     where
-      each-middle : (xs : List Names) (x : Names) (ys : List Names) → AllByRecursion (IsOutside tmp) (xs ++ x ∷ ys) → IsOutside tmp x
+      each-middle : (xs : List Names) (x : Names) (ys : List Names) → AllByRecursion (IsNotIn tmp) (xs ++ x ∷ ys) → IsNotIn tmp x
       each-middle [] x ys h = h.0
       each-middle (z ∷ zs) x ys h = each-middle zs x ys h.1
 
-      each-front : (xs : List Names) (x : Names) (ys : List Names) → AllByRecursion (IsOutside tmp) (xs ++ x ∷ ys) → AllByRecursion (IsOutside tmp) xs
+      each-front : (xs : List Names) (x : Names) (ys : List Names) → AllByRecursion (IsNotIn tmp) (xs ++ x ∷ ys) → AllByRecursion (IsNotIn tmp) xs
       each-front [] x ys h = tt
       each-front (z ∷ zs) x ys h = (h.0, each-front zs x ys h.1)
 
-      each-back : (xs : List Names) (x : Names) (ys : List Names) → AllByRecursion (IsOutside tmp) (xs ++ x ∷ ys) → AllByRecursion (IsOutside tmp) ys
+      each-back : (xs : List Names) (x : Names) (ys : List Names) → AllByRecursion (IsNotIn tmp) (xs ++ x ∷ ys) → AllByRecursion (IsNotIn tmp) ys
       each-back [] x ys h = h.1
       each-back (z ∷ zs) x ys h = each-back zs x ys h.1
 
@@ -269,14 +269,14 @@ module _ {B : Type 0} (from to : Tree B) (is : IsPair from to) (tmp : List ℕ) 
   all-ready : AllByRecursion IsReady (placings from to)
   all-ready = each-put (placing_at from to) IsReady to is.to_tree.sorted ready-one
 
-  pub targets-outside : AllByRecursion (IsOutside tmp) (targets (placings from to))
-  targets-outside = each-target (placing_at from to) (IsOutside tmp) (placings from to) (each-put (placing_at from to) (λ put. IsOutside tmp (target put)) to is.to_tree.sorted
+  pub targets-outside : AllByRecursion (IsNotIn tmp) (targets (placings from to))
+  targets-outside = each-target (placing_at from to) (IsNotIn tmp) (placings from to) (each-put (placing_at from to) (λ put. IsNotIn tmp (target put)) to is.to_tree.sorted
       (λ q m put at h. put-parts q m put h
       (λ above name old e from_at moves is_put. in_place q m put at h above name e)
       (λ above name e none dir is_put. in_place q m put at h above name e)))
     where
-      in_place : (q : Names) (m : Node B) (put : Placing (Node B)) → node_at to q ≡ Some m → placing_at from to (q, m) ≡ Some put → (above : Names) (name : List ℕ) → q ≡ above ++ name ∷ [] → IsOutside tmp (target put)
-      in_place q m put at h above name e = subst (IsOutside tmp) (sym e ∙ sym (lands from to is q m put h)) (outside to is.to_tree to_free above name m (ap (node_at to) (sym e) ∙ at))
+      in_place : (q : Names) (m : Node B) (put : Placing (Node B)) → node_at to q ≡ Some m → placing_at from to (q, m) ≡ Some put → (above : Names) (name : List ℕ) → q ≡ above ++ name ∷ [] → IsNotIn tmp (target put)
+      in_place q m put at h above name e = subst (IsNotIn tmp) (sym e ∙ sym (lands from to is q m put h)) (outside to is.to_tree to_free above name m (ap (node_at to) (sym e) ∙ at))
 
   targets-linked : IsLinked (is_in (targets (placings from to))) (placings from to)
   targets-linked = linked (targets (placings from to)) [] (placings from to) refl (rises-targets (placing_at from to) (lands from to is) to is.to_tree.sorted)

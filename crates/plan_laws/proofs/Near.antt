@@ -1,16 +1,13 @@
 -- A call whose paths are neither near a root changes nothing there: what the texts of its paths tell.
-use Rattle.std.proofs.Common.{◌≡◌, ℕ, Bool, true, false, ◌||◌, bytes_eq, cond, Ok, Err, List, [], ◌∷◌, ◌++◌, take, drop, refl, ap, sym, ◌∙◌, append-nil}
-use Rattle.std.specs.Prelude.{◌≢◌, Result}
-use Rattle.std.specs.List.{starts_with, before_first, position_or_len, list_any}
+use Rattle.std.proofs.Common.{◌≡◌, ℕ, Bool, true, false, bytes_eq, cond, Ok, Err, List, [], ◌∷◌, ◌++◌, drop, refl, ap, sym, ◌∙◌, append-nil}
+use Rattle.std.specs.Prelude.{Result}
+use Rattle.std.specs.List.{starts_with, before_first, position_or_len}
 use Rattle.std.proofs.lemmas.List.{take-append-drop}
 use Rattle.hs_types.specs.Names.{Names, is_snapshot_word}
 use Rattle.hs_types.specs.Paths.{components, is_bad_path, is_too_long, is_too_deep, tail_at, path_from, path_of}
 use Rattle.hs_types.specs.declared.path.Path.{Path}
-use Rattle.hs_types.specs.declared.path.PathTail.{PathTail}
-use Rattle.hs_types.specs.declared.path.PathTail.TheVariants.{Plain, SnapshotList, Frozen}
 use Rattle.hs_types.specs.declared.refusal.Refusal.{Refusal}
 use Rattle.hs_types.specs.declared.refusal.Refusal.TheVariants.{BadPath, TooLong, TooDeep}
-use Rattle.hs_plain.specs.Asked.{Asked, ◌>>=◌}
 use Rattle.hs_plain.specs.State.{plain_base, plain_of}
 use Rattle.hs_plain.specs.Modifying.{live_path}
 use Rattle.hs_plain.specs.Span.{is_near}

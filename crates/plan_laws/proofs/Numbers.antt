@@ -1,15 +1,12 @@
 -- No two outs have one name.
-use Rattle.std.proofs.Common.{◌≡◌, ℕ, zero, suc, ◌+◌, ◌<◌, ◌≤◌, ◌^◌, true, false, ◌||◌, bytes_eq, cond, List, [], ◌∷◌, length, refl, ap, sym, ◌∙◌, arith}
+use Rattle.std.proofs.Common.{◌≡◌, ℕ, ◌+◌, ◌<◌, ◌≤◌, ◌^◌, true, false, cond, length, ap, sym, ◌∙◌, arith}
 use Rattle.std.specs.Prelude.{nat_lt, replicate}
 use Rattle.std.specs.Fmt.{decimal}
 use Rattle.std.proofs.lemmas.Bool.{ltb-true, ltb-false}
 use Rattle.std.proofs.lemmas.Fmt.{decimal_injective, length-decimal-le_succ}
 use Rattle.std.proofs.lemmas.List.{length-replicate}
-use Rattle.std.proofs.lemmas.Slice.Eq.{bytes_eq-Decides}
-use Rattle.hs_plain.proofs.ValidShapes.{true_false}
 use Rattle.plan_laws.specs.Numbers.{number, number_below}
-use Rattle.plan_laws.proofs.Paths.{by, differs}
-use Rattle.plan_laws.proofs.Child.{or_second, or_split}
+use Rattle.plan_laws.proofs.Paths.{by}
 
 module _ (bound : ℕ) (once : (m n : ℕ) → m < bound → n < bound → decimal m ≡ decimal n → m ≡ n) (short : (n : ℕ) → n < bound → length (decimal n) ≤ n + 1) where
   low : (n : ℕ) → nat_lt n bound ≡ true → number_below bound n ≡ decimal n

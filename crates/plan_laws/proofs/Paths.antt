@@ -6,7 +6,7 @@ use Rattle.std.proofs.lemmas.Slice.Eq.{bytes_eq-Decides}
 use Rattle.hs_types.specs.Names.{Names}
 use Rattle.hs_plain.proofs.ValidShapes.{none_some, same_some}
 use Rattle.hs_plain.specs.Plan.{rest_below}
-use Rattle.plan_laws.specs.Sight.{IsOutside}
+use Rattle.plan_laws.specs.Sight.{IsNotIn}
 
 -- by a test
 pub by : {P : Type 0} (b : Bool) → (b ≡ true → P) → (b ≡ false → P) → P
@@ -66,11 +66,11 @@ none-deeper tmp more (n ∷ q) h = by (bytes_eq tmp n)
     (λ t. absurd (none_some (sym h ∙ rest-step tmp n [] q ∙ ap (λ b. cond b (Some q) None) t)))
     (λ f. rest-step tmp n more q ∙ ap (λ b. cond b (rest_below more q) None) f)
 
-pub outside-none : (tmp : List ℕ) (more q r : Names) → IsOutside tmp q → rest_below (tmp ∷ more) (q ++ r) ≡ None
+pub outside-none : (tmp : List ℕ) (more q r : Names) → IsNotIn tmp q → rest_below (tmp ∷ more) (q ++ r) ≡ None
 outside-none tmp more [] r out = absurd out
 outside-none tmp more (n ∷ q) r out = rest-other tmp n more (q ++ r) (λ e. out (sym e))
 
-pub outside-other : (tmp : List ℕ) (q r : Names) → IsOutside tmp q → rest_below q (tmp ∷ r) ≡ None
+pub outside-other : (tmp : List ℕ) (q r : Names) → IsNotIn tmp q → rest_below q (tmp ∷ r) ≡ None
 outside-other tmp [] r out = absurd out
 outside-other tmp (n ∷ q) r out = rest-other n tmp q r out
 

@@ -1,28 +1,27 @@
 -- The calls of a plan, in any merging of its copies, in a journal.
-use Rattle.std.proofs.Common.{◌≡◌, ℕ, suc, ◌+◌, ◌<◌, ◌≤◌, ◌^◌, Bool, true, false, Option, Some, None, List, [], ◌∷◌, ◌++◌, map, length, refl, ap, sym, subst, ◌∙◌, arith}
-use Rattle.std.specs.List.{filter, AllByRecursion}
+use Rattle.std.proofs.Common.{◌≡◌, ℕ, suc, ◌+◌, ◌<◌, ◌≤◌, ◌^◌, Bool, None, List, [], ◌∷◌, ◌++◌, map, length, refl, ap, sym, subst, ◌∙◌, arith}
+use Rattle.std.specs.List.{AllByRecursion}
 use Rattle.hs_types.specs.Names.{Names}
 use Rattle.hs_types.specs.declared.call.Call.{Call}
 use Rattle.hs_types.specs.declared.journal.Entry.{Entry}
 use Rattle.hs_plain.specs.declared.plan.Plan.{Plan}
-use Rattle.hs_plain.specs.declared.plan.Put.{Put}
 use Rattle.hs_plain.specs.declared.state.Node.{Node}
 use Rattle.hs_plain.specs.declared.state.State.{State}
 use Rattle.hs_plain.specs.declared.state.Body.TheVariants.{Dir}
 use Rattle.hs_plain.specs.Files.{plain_files}
-use Rattle.hs_plain.specs.Tree.{Tree, path_cmp, node_at, is_dir, subtree}
+use Rattle.hs_plain.specs.Tree.{Tree, node_at, subtree}
 use Rattle.hs_plain.specs.Replay.{replay_from}
-use Rattle.hs_plain.specs.Plan.{outs, puts, is_copied, copies, plan_of, out_place, move_calls, last_call, ArePlanCalls, AreEqual, text_below}
+use Rattle.hs_plain.specs.Plan.{outs, plan_of, move_calls, last_call, ArePlanCalls, AreEqual, text_below}
 use Rattle.plan_laws.specs.Sight.{Placing, Back, New}
 use Rattle.plan_laws.specs.Placings.{placing_at, placings, as_put}
-use Rattle.plan_laws.specs.Copies.{CopyCall, Create, Append, path_of_call, is_at}
+use Rattle.plan_laws.specs.Copies.{CopyCall, Create, Append, path_of_call}
 use Rattle.plan_laws.specs.Pair.{IsPair}
-use Rattle.plan_laws.specs.Steps.{Step, Move, Make, Fill, Drop, out_steps, put_step, plan_steps, step_call, copy_call, StepLeads, HasFirst, AreOk}
+use Rattle.plan_laws.specs.Steps.{Step, Fill, Drop, out_steps, put_step, plan_steps, step_call, StepLeads, HasFirst, AreOk}
 use Rattle.plan_laws.specs.Target.{IsBegun, IsTarget}
 use Rattle.plan_laws.specs.PlanPaths.{LeadsBelow, path_of_put, PathsLead}
 use Rattle.plan_laws.specs.Numbers.{number}
 use Rattle.plan_laws.proofs.Numbers.{number-once, number-low}
-use Rattle.plan_laws.proofs.Lists.{split, each-append}
+use Rattle.plan_laws.proofs.Lists.{each-append}
 use Rattle.plan_laws.proofs.Moves.{each-put, put-parts, went-out}
 use Rattle.plan_laws.proofs.Whole.{each-call}
 use Rattle.plan_laws.proofs.Planned.{index-low, placings-puts, IsByPath, by-path, pages, IsLow, steps-calls, in-copies}

@@ -4,13 +4,11 @@ use Rattle.std.specs.Prelude.{not, ◌&&◌, slice_get}
 use Rattle.std.specs.List.{filter, filter_map, cons_option, AllByRecursion}
 use Rattle.std.specs.Option.{unwrap_or, option_map}
 use Rattle.std.specs.FinMap.Entries.{is_sorted, below_all}
-use Rattle.std.specs.Fmt.{decimal}
 use Rattle.std.proofs.lemmas.Option.{slice_get-map}
 use Rattle.hs_types.specs.Names.{Names}
 use Rattle.hs_types.specs.declared.call.Call.{Call}
 use Rattle.hs_types.specs.declared.call.Call.TheVariants as calls
 use Rattle.hs_plain.specs.declared.plan.Plan.{Plan}
-use Rattle.hs_plain.specs.declared.plan.Put.{Put}
 use Rattle.hs_plain.specs.declared.plan.Put.TheVariants as plan_puts
 use Rattle.hs_plain.specs.declared.plan.CopyJob.{CopyJob}
 use Rattle.hs_plain.specs.declared.state.Node.{Node}
@@ -18,15 +16,15 @@ use Rattle.hs_plain.specs.declared.state.Body.{Body}
 use Rattle.hs_plain.specs.declared.state.Body.TheVariants.{File, Dir}
 use Rattle.hs_plain.specs.Tree.{Tree, path_cmp, node_at, is_dir, is_dir_body, same_path, parent_of, place_of}
 use Rattle.hs_plain.specs.Report.{last_of, same_place}
-use Rattle.hs_plain.specs.Plan.{rest_below, outs, index_of, put_by, put_at, puts, is_other, is_copied, copies, text_below, out_place, out_calls, put_call, move_calls, pages_of, copy_calls as copy_texts, bytes_of_body, bytes_there, all_copy_calls, last_call, numbered_so, IsMerging as AreMerged}
+use Rattle.hs_plain.specs.Plan.{rest_below, outs, index_of, put_by, put_at, puts, is_other, is_copied, copies, text_below, out_place, out_calls, put_call, move_calls, pages_of, copy_calls as copy_texts, bytes_of_body, bytes_there, all_copy_calls, last_call, IsMerging as AreMerged}
 use Rattle.hs_plain.proofs.ValidTrees.{first, second}
 use Rattle.hs_plain.proofs.ValidShapes.{none_some, same_some, true_false, by_last, parent_of-last}
 use Rattle.hs_plain.proofs.ValidPlaces.{head_at, in_tail}
 use Rattle.plan_laws.specs.Sight.{Placing, Back, New, is_in, Rises}
 use Rattle.plan_laws.specs.Placings.{placing_by, placing_at, placings, as_put}
 use Rattle.plan_laws.specs.Pair.{IsPair}
-use Rattle.plan_laws.specs.Copies.{CopyCall, Create, Append, path_of_call, is_at, joined, appends, copy_calls, IsMerging}
-use Rattle.plan_laws.specs.Steps.{Step, Move, Make, Fill, Drop, out_steps, put_step, plan_steps, copy_call, step_call}
+use Rattle.plan_laws.specs.Copies.{CopyCall, path_of_call, is_at, joined, appends, copy_calls, IsMerging}
+use Rattle.plan_laws.specs.Steps.{Fill, Drop, out_steps, put_step, plan_steps, copy_call, step_call}
 use Rattle.plan_laws.specs.Numbers.{number}
 use Rattle.plan_laws.proofs.Paths.{by, by_one, rest-here}
 use Rattle.plan_laws.proofs.Places.{path_of_place, last_of-last, place_of-here, not_root}

@@ -3,7 +3,7 @@ use Rattle.std.specs.List.{AllByRecursion}
 use Rattle.std.proofs.Common.{◌≡◌, ◌⊎◌, ℕ, Bool, true, false, ◌||◌, Option, Some, None, is_some, List, [], ◌∷◌, ◌++◌, refl, ap, sym, subst, ◌∙◌, append-nil}
 use Rattle.hs_types.specs.Names.{Names}
 use Rattle.hs_plain.specs.Plan.{rest_below}
-use Rattle.plan_laws.specs.Sight.{Sight, hits, inside_or, moved_sight, at_top, made_sight, unless, cuts, Both, IsOutside, Placing, Back, New, targets, puts_done, PutsGo, Differ, Ready, IsOther, NumberOnce, IsLinked, Stands, HasDirs}
+use Rattle.plan_laws.specs.Sight.{Sight, hits, inside_or, moved_sight, at_top, made_sight, unless, cuts, Both, IsNotIn, Placing, Back, New, targets, puts_done, PutsGo, Differ, Ready, IsOther, NumberOnce, IsLinked, Stands, HasDirs}
 use Rattle.plan_laws.proofs.Paths.{by_one, rest-here, rest-so, none-shorter, none-above, none-deeper, outside-none, outside-other, other-child, not-itself}
 use Rattle.plan_laws.proofs.Alike.{both-at, alike-below, below-put}
 
@@ -23,15 +23,15 @@ module _ {X : Type 0} (Alike : X → X → Type 0) (from to : Sight X) (is_out i
     (tmp : List ℕ) (number : ℕ → List ℕ) (once : (i j : ℕ) → number i ≡ number j → i ≡ j) where
   -- ---- what is put away stays until its put
 
-  back-kept : (s : Sight X) (i j : ℕ) (t r : Names) → IsOutside tmp t → (j ≡ i → ⊥) → moved_sight s (tmp ∷ number i ∷ []) t (tmp ∷ number j ∷ r) ≡ s (tmp ∷ number j ∷ r)
+  back-kept : (s : Sight X) (i j : ℕ) (t r : Names) → IsNotIn tmp t → (j ≡ i → ⊥) → moved_sight s (tmp ∷ number i ∷ []) t (tmp ∷ number j ∷ r) ≡ s (tmp ∷ number j ∷ r)
   back-kept s i j t r out other =
       ap (λ o. inside_or o (λ rest. s (tmp ∷ number i ∷ rest)) (inside_or (rest_below (tmp ∷ number i ∷ []) (tmp ∷ number j ∷ r)) (λ rest. None) (s (tmp ∷ number j ∷ r)))) (outside-other tmp t (number j ∷ r) out)
       ∙ ap (λ o. inside_or o (λ rest. None) (s (tmp ∷ number j ∷ r))) (other-child tmp (number i) (number j) r (λ e. other (sym (once i j e))))
 
-  new-kept : (s : Sight X) (t : Names) (node : X) (q : Names) → IsOutside tmp t → made_sight s t node (tmp ∷ q) ≡ s (tmp ∷ q)
+  new-kept : (s : Sight X) (t : Names) (node : X) (q : Names) → IsNotIn tmp t → made_sight s t node (tmp ∷ q) ≡ s (tmp ∷ q)
   new-kept s t node q out = ap (λ o. inside_or o (at_top node (s (tmp ∷ q))) (s (tmp ∷ q))) (outside-other tmp t q out)
 
-  pub puts-top : (puts : List (Placing X)) (s : Sight X) → AllByRecursion (IsOutside tmp) (targets puts) → puts_done tmp number s puts (tmp ∷ []) ≡ s (tmp ∷ [])
+  pub puts-top : (puts : List (Placing X)) (s : Sight X) → AllByRecursion (IsNotIn tmp) (targets puts) → puts_done tmp number s puts (tmp ∷ []) ≡ s (tmp ∷ [])
   puts-top [] s out = refl
   puts-top (Back i above name ∷ puts) s out =
       puts-top puts (moved_sight s (tmp ∷ number i ∷ []) (above ++ name ∷ [])) out.1
@@ -42,19 +42,19 @@ module _ {X : Type 0} (Alike : X → X → Type 0) (from to : Sight X) (is_out i
   abbrev Is : Sight X → Placing X → Type 0
   Is s put = Ready Alike from to is_out is_put tmp number s put
 
-  ready-back : (s : Sight X) (i : ℕ) (t : Names) → IsOutside tmp t → (put : Placing X) → IsOther i put → Is s put → Is (moved_sight s (tmp ∷ number i ∷ []) t) put
+  ready-back : (s : Sight X) (i : ℕ) (t : Names) → IsNotIn tmp t → (put : Placing X) → IsOther i put → Is s put → Is (moved_sight s (tmp ∷ number i ∷ []) t) put
   ready-back s i t out (Back j above name) other is = (is.0, is.1, is.2, is.3, is.4, is.5, λ r. back-kept s i j t r out other ∙ is.6 r)
   ready-back s i t out (New node above name) other is = is
 
-  ready-new : (s : Sight X) (t : Names) (node : X) → IsOutside tmp t → (put : Placing X) → Is s put → Is (made_sight s t node) put
+  ready-new : (s : Sight X) (t : Names) (node : X) → IsNotIn tmp t → (put : Placing X) → Is s put → Is (made_sight s t node) put
   ready-new s t node out (Back j above name) is = (is.0, is.1, is.2, is.3, is.4, is.5, λ r. new-kept s t node (number j ∷ r) out ∙ is.6 r)
   ready-new s t node out (New other above name) is = is
 
-  all-ready-back : (s : Sight X) (i : ℕ) (t : Names) → IsOutside tmp t → (puts : List (Placing X)) → AllByRecursion (IsOther i) puts → AllByRecursion (Is s) puts → AllByRecursion (Is (moved_sight s (tmp ∷ number i ∷ []) t)) puts
+  all-ready-back : (s : Sight X) (i : ℕ) (t : Names) → IsNotIn tmp t → (puts : List (Placing X)) → AllByRecursion (IsOther i) puts → AllByRecursion (Is s) puts → AllByRecursion (Is (moved_sight s (tmp ∷ number i ∷ []) t)) puts
   all-ready-back s i t out [] others are = tt
   all-ready-back s i t out (put ∷ puts) others are = (ready-back s i t out put others.0 are.0, all-ready-back s i t out puts others.1 are.1)
 
-  all-ready-new : (s : Sight X) (t : Names) (node : X) → IsOutside tmp t → (puts : List (Placing X)) → AllByRecursion (Is s) puts → AllByRecursion (Is (made_sight s t node)) puts
+  all-ready-new : (s : Sight X) (t : Names) (node : X) → IsNotIn tmp t → (puts : List (Placing X)) → AllByRecursion (Is s) puts → AllByRecursion (Is (made_sight s t node)) puts
   all-ready-new s t node out [] are = tt
   all-ready-new s t node out (put ∷ puts) are = (ready-new s t node out put are.0, all-ready-new s t node out puts are.1)
 
@@ -102,7 +102,7 @@ module _ {X : Type 0} (Alike : X → X → Type 0) (from to : Sight X) (is_out i
 
   -- ---- all puts
 
-  pub puts-stand : (puts : List (Placing X)) (s : Sight X) → AllByRecursion (IsOutside tmp) (targets puts) → NumberOnce puts → IsLinked is_put puts → AllByRecursion (Is s) puts → Stands Alike to tmp s (targets puts) →
+  pub puts-stand : (puts : List (Placing X)) (s : Sight X) → AllByRecursion (IsNotIn tmp) (targets puts) → NumberOnce puts → IsLinked is_put puts → AllByRecursion (Is s) puts → Stands Alike to tmp s (targets puts) →
       Stands Alike to tmp (puts_done tmp number s puts) []
   puts-stand [] s out once linked are stands = stands
   puts-stand (Back i above name ∷ puts) s out once linked are stands =
@@ -117,10 +117,10 @@ module _ {X : Type 0} (Alike : X → X → Type 0) (from to : Sight X) (is_out i
   -- ---- each put is accepted
 
   module _ (is_dir : X → Bool) (kinds : (a b : X) → Alike a b → is_dir a ≡ is_dir b) (dirs : HasDirs is_dir to) where
-    above-outside : (above : Names) (name : List ℕ) → IsOutside tmp (above ++ name ∷ []) → rest_below (tmp ∷ []) above ≡ None
+    above-outside : (above : Names) (name : List ℕ) → IsNotIn tmp (above ++ name ∷ []) → rest_below (tmp ∷ []) above ≡ None
     above-outside above name out = none-shorter (tmp ∷ []) above (name ∷ []) (ap (rest_below (tmp ∷ [])) (sym (append-nil (above ++ name ∷ []))) ∙ outside-none tmp [] (above ++ name ∷ []) [] out)
 
-    dir-above : (s : Sight X) (above : Names) (name : List ℕ) (paths : List Names) (b : X) → IsOutside tmp (above ++ name ∷ []) → to (above ++ name ∷ []) ≡ Some b →
+    dir-above : (s : Sight X) (above : Names) (name : List ℕ) (paths : List Names) (b : X) → IsNotIn tmp (above ++ name ∷ []) → to (above ++ name ∷ []) ≡ Some b →
         AllByRecursion (λ later. rest_below later (above ++ name ∷ []) ≡ None) paths → Stands Alike to tmp s ((above ++ name ∷ []) ∷ paths) → (node : X) × (s above ≡ Some node) × (is_dir node ≡ true)
     dir-above s above name paths b out there apart stands =
         let d : (dir : X) × (to above ≡ Some dir) × (is_dir dir ≡ true) = dirs above name b there in
@@ -128,12 +128,12 @@ module _ {X : Type 0} (Alike : X → X → Type 0) (from to : Sight X) (is_out i
         let found : (a : X) × (s above ≡ Some a) × Alike a d.0 = here_some Alike (s above) d.0 (both-at Alike {o = s above} {u = s above} refl (sym (ap (λ c. unless c (to above)) clear ∙ d.1)) (stands above (above-outside above name out))) in
         (found.0, found.1, kinds found.0 d.0 found.2 ∙ d.2)
 
-    free-at : (s : Sight X) (t : Names) (paths : List Names) → IsOutside tmp t → Stands Alike to tmp s (t ∷ paths) → s t ≡ None
+    free-at : (s : Sight X) (t : Names) (paths : List Names) → IsNotIn tmp t → Stands Alike to tmp s (t ∷ paths) → s t ≡ None
     free-at s t paths out stands = none_here Alike (s t)
         (subst (λ c. Both Alike (s t) (unless c (to t))) (ap (λ (x : Names). is_some (rest_below t x) || hits paths t) (sym (append-nil t)) ∙ ap (λ o. is_some o || hits paths t) (rest-here t []))
         (stands t (ap (rest_below (tmp ∷ [])) (sym (append-nil t)) ∙ outside-none tmp [] t [] out)))
 
-    pub puts-go : (puts : List (Placing X)) (s : Sight X) → AllByRecursion (IsOutside tmp) (targets puts) → NumberOnce puts → IsLinked is_put puts → AllByRecursion (Is s) puts → Stands Alike to tmp s (targets puts) →
+    pub puts-go : (puts : List (Placing X)) (s : Sight X) → AllByRecursion (IsNotIn tmp) (targets puts) → NumberOnce puts → IsLinked is_put puts → AllByRecursion (Is s) puts → Stands Alike to tmp s (targets puts) →
         PutsGo is_dir tmp number s puts
     puts-go [] s out once linked are stands = tt
     puts-go (Back i above name ∷ puts) s out once linked are stands = (

@@ -1,10 +1,8 @@
 -- A snapshottable directory: below it nothing is snapshottable, and it stays through calls elsewhere.
-use Rattle.std.proofs.Common.{◌≡◌, ℕ, ◌+◌, Bool, true, false, cond, Option, Some, None, Ok, is_some, List, [], ◌∷◌, ◌++◌, length, drop, refl, ap, sym, ◌∙◌, append-nil, append_assoc}
+use Rattle.std.proofs.Common.{◌≡◌, ◌+◌, Bool, true, false, cond, Some, Ok, is_some, [], ◌∷◌, ◌++◌, length, drop, refl, ap, sym, ◌∙◌, append-nil, append_assoc}
 use Rattle.std.specs.Prelude.{◌≢◌, not, ◌&&◌}
-use Rattle.std.specs.List.{filter, list_any}
+use Rattle.std.specs.List.{list_any}
 use Rattle.std.specs.Option.{option_map}
-use Rattle.std.specs.FinMap.Entries.{put}
-use Rattle.std.proofs.lemmas.Bool.Decides.{Decides-eqb}
 use Rattle.hs_types.specs.Names.{Names}
 use Rattle.hs_types.specs.declared.ids.InodeId.{InodeId}
 use Rattle.hs_types.specs.declared.call.Call.{Call}
@@ -14,26 +12,26 @@ use Rattle.hs_plain.specs.declared.state.Node.{Node}
 use Rattle.hs_plain.specs.declared.state.Member.{Member}
 use Rattle.hs_plain.specs.declared.state.State.{State}
 use Rattle.hs_plain.specs.Files.{Files}
-use Rattle.hs_plain.specs.Tree.{Tree, path_cmp, node_at, parent_of, is_dir, is_under, same_inode, place_of}
-use Rattle.hs_plain.specs.State.{new_dir, is_snapshottable, has_snapshots, holds_snapshots, holds_snapshottable}
+use Rattle.hs_plain.specs.Tree.{node_at, parent_of, is_under, same_inode, place_of}
+use Rattle.hs_plain.specs.State.{new_dir, is_snapshottable, has_snapshots}
 use Rattle.hs_plain.specs.Valid.{IsValid}
 use Rattle.hs_plain.specs.Places.{IsOutside}
 use Rattle.hs_plain.specs.Modifying.{mkdir_at, create_at, append_at, delete_at, rename_at, set_mode_at}
 use Rattle.hs_plain.specs.Snapshotting.{allow_at, disallow_at, snap_at, snap_del_at, snap_ren_at}
-use Rattle.hs_plain.specs.Change.{stamped, without, moved, new_file, with_node, with_file, made_dir, made_file, appended, removed, renamed, with_mode, allowed, disallowed, snapped, unsnapped, resnapped, still_in, change, changed_if, takes_effect, after, ticked}
+use Rattle.hs_plain.specs.Change.{stamped, without, moved, new_file, with_node, with_file, made_dir, made_file, appended, removed, renamed, with_mode, allowed, disallowed, snapped, unsnapped, resnapped, change, changed_if, takes_effect, after, ticked}
 use Rattle.hs_plain.proofs.ValidTrees.{first, second, if_asked-keeps}
 use Rattle.hs_plain.proofs.ValidShapes.{Shape, true_false, under_so}
 use Rattle.hs_plain.proofs.ValidLists.{In, false_by, none_from, any_so, all_so, in-filter, in-left}
 use Rattle.hs_plain.proofs.ValidMembers.{inode_so}
 use Rattle.hs_plain.proofs.ValidNodes.{shape, shapes, shape_some}
 use Rattle.hs_plain.proofs.ValidHeld.{in-tree, found_place}
-use Rattle.hs_plain.proofs.ValidDirs.{above_test, listed_so, listed_test, AreDirs}
+use Rattle.hs_plain.proofs.ValidDirs.{above_test, listed_so, AreDirs}
 use Rattle.hs_plain.proofs.ValidFollows.{live_tree, live_dirs}
 use Rattle.hs_plain.proofs.ValidChanges.{shapes-stamped, shapes-moded, put_there, without_there}
 use Rattle.hs_plain.proofs.ValidCalls.{free_below}
 use Rattle.hs_plain.proofs.ValidAsked.{MayMove, rename_allowed}
 use Rattle.hs_plain.proofs.Trees.{moved-elsewhere, no_place}
-use Rattle.plan_laws.proofs.Paths.{by, by_one}
+use Rattle.plan_laws.proofs.Paths.{by_one}
 use Rattle.plan_laws.proofs.Bridge.{IsBare}
 
 module _ {B : Type 0} where

@@ -2,7 +2,6 @@
 use Rattle.std.proofs.Common.{◌≡◌, ℕ, ◌+◌, Bool, true, false, cond, Option, Some, None, Ok, List, [], ◌∷◌, ◌++◌, map, refl, ap, sym, subst, ◌∙◌, append-nil, append_assoc}
 use Rattle.std.specs.Prelude.{◌&&◌, not}
 use Rattle.std.specs.List.{filter, AllByRecursion}
-use Rattle.std.specs.Option.{option_map}
 use Rattle.std.proofs.lemmas.List.{append_cancel_left}
 use Rattle.hs_types.specs.Names.{Names}
 use Rattle.hs_types.specs.Paths.{components}
@@ -17,7 +16,7 @@ use Rattle.hs_plain.specs.declared.state.State.{State}
 use Rattle.hs_plain.specs.declared.state.Body.TheVariants.{Dir}
 use Rattle.hs_plain.specs.Asked.{Asked}
 use Rattle.hs_plain.specs.Files.{plain_files}
-use Rattle.hs_plain.specs.Tree.{Tree, node_at, is_dir_body, parent_of}
+use Rattle.hs_plain.specs.Tree.{Tree, node_at, is_dir_body}
 use Rattle.hs_plain.specs.Valid.{IsValid}
 use Rattle.hs_plain.specs.Places.{IsOutside}
 use Rattle.hs_plain.specs.Modifying.{mkdir_at, create_at, append_at, delete_at, rename_at}
@@ -26,12 +25,12 @@ use Rattle.hs_plain.specs.Change.{after, change, changed_if, takes_effect, is_ac
 use Rattle.hs_plain.specs.Replay.{replay_from}
 use Rattle.hs_plain.specs.Span.{touches}
 use Rattle.hs_plain.specs.Plan.{outs, rest_below}
-use Rattle.hs_plain.proofs.ValidShapes.{none_some, true_false, not_last, not_more}
+use Rattle.hs_plain.proofs.ValidShapes.{true_false, not_last, not_more}
 use Rattle.hs_plain.proofs.ValidAsked.{same_ok}
 use Rattle.hs_plain.proofs.ValidNodes.{shape, shape_some}
 use Rattle.hs_plain.proofs.ValidShapes.{Shape}
 use Rattle.hs_plain.proofs.Validity.{valid-after}
-use Rattle.plan_laws.specs.Sight.{moved_sight, made_sight, outs_done, Placing, Back, New, targets, puts_done, IsOutside as IsNotIn, OutsGo, PutsGo}
+use Rattle.plan_laws.specs.Sight.{moved_sight, made_sight, outs_done, Placing, Back, New, targets, puts_done, IsNotIn, OutsGo, PutsGo}
 use Rattle.plan_laws.specs.Placings.{placing_at, placings}
 use Rattle.plan_laws.specs.Pair.{IsTree, IsPair}
 use Rattle.plan_laws.specs.Copies.{Content, Contents, CopyCall, Create, Append, path_of_call, call_done, calls_done, CallGoes, CallsGo, is_dir_seen, is_file_seen, without_sight, content_of, content_put, after_outs, after_puts, after_sync, IsMerging, SyncGoes}
@@ -40,7 +39,7 @@ use Rattle.plan_laws.specs.Steps.{Step, Move, Make, Fill, Drop, step_done, steps
 use Rattle.plan_laws.proofs.Paths.{by, outside-none, outside-other}
 use Rattle.plan_laws.proofs.Child.{dir_body}
 use Rattle.plan_laws.proofs.Moves.{outs-outside-tmp, targets-outside, each-put, put-parts}
-use Rattle.plan_laws.proofs.Whole.{sync-goes, sync-equal}
+use Rattle.plan_laws.proofs.Whole.{sync-goes}
 use Rattle.plan_laws.proofs.Bridge.{IsBare, rename-ok, rename-changes, mkdir-ok, mkdir-changes, create-ok, create-changes, append-ok, append-changes, delete-ok, delete-changes}
 use Rattle.plan_laws.proofs.Roots.{IsRootAt, IsElsewhere, bare, root-stays}
 use Rattle.plan_laws.proofs.Apart.{CallApart, untouched, far-apart}

@@ -1,5 +1,5 @@
 -- Two valid trees of one root.
-use Rattle.std.specs.Prelude.{◌≡◌, true, false, ◌||◌, if◌then◌else◌, List, [], ◌∷◌, ◌++◌, Option, Some, None, is_some}
+use Rattle.std.specs.Prelude.{◌≡◌, true, false, ◌||◌, if◌then◌else◌, [], Option, Some, None, is_some}
 use Rattle.std.specs.FinMap.Entries.{is_sorted}
 use Rattle.hs_types.specs.Names.{Names}
 use Rattle.hs_plain.specs.declared.state.Node.{Node}

@@ -64,10 +64,10 @@ NoneBelow paths = Pairwise (λ path later. rest_below path later ≡ None) paths
 abbrev pub Rises : List Names → Type 0
 Rises paths = Pairwise (λ path later. rest_below later path ≡ None) paths
 
--- neither the root nor in a directory right below it
-abbrev pub IsOutside : List ℕ → Names → Type 0
-IsOutside tmp [] = ⊥
-IsOutside tmp (name ∷ path) = name ≡ tmp → ⊥
+-- neither the root, nor a directory right below it or what is in it
+abbrev pub IsNotIn : List ℕ → Names → Type 0
+IsNotIn tmp [] = ⊥
+IsNotIn tmp (name ∷ path) = name ≡ tmp → ⊥
 
 -- a rename is accepted: its source is there, a directory stands above its target, and nothing at it
 pub record Goes {X : Type 0} (is_dir : X → Bool) (sight : Sight X) (old above : Names) (name : List ℕ) : Type 0 where

@@ -21,7 +21,7 @@ ghost use Rattle.hs_plain.specs.Replay.{replay_from};
 ghost use Rattle.hs_plain.specs.Valid.{IsValid, HasSteadyStamps};
 ghost use Rattle.plan_laws.specs.Placings.{placings};
 ghost use Rattle.plan_laws.specs.Pair.{IsPair, Alike, old_sight};
-ghost use Rattle.plan_laws.specs.Sight.{Sight, made_sight, hits, unless, outs_done, NoneBelow, IsOutside, OutsGo, cuts, is_in, Both, Differ, Placing, targets, NumberOnce, IsLinked, Ready, Stands, HasDirs, puts_done, PutsGo};
+ghost use Rattle.plan_laws.specs.Sight.{Sight, made_sight, hits, unless, outs_done, NoneBelow, IsNotIn, OutsGo, cuts, is_in, Both, Differ, Placing, targets, NumberOnce, IsLinked, Ready, Stands, HasDirs, puts_done, PutsGo};
 ghost use Rattle.plan_laws.specs.Copies.{Contents, content_of, CopyCall, IsMerging, SyncGoes, after_sync};
 ghost use Rattle.plan_laws.specs.Steps.{plan_steps, step_call, StepLeads, HasFirst, AreOk};
 ghost use Rattle.plan_laws.specs.Target.{IsBegun, IsTarget};
@@ -39,14 +39,14 @@ pub fn outs_outside()
 /// In tmp under an out's number stands what stood at its path and below, but for what an earlier out had taken.
 pub fn outs_inside()
     ensures { (tmp : List ℕ) (number : ℕ → List ℕ) → ((i j : ℕ) → number i ≡ number j → i ≡ j) →
-        (before : List Names) (p : Names) (after : List Names) (s : Sight ℕ) (k : ℕ) (r : Names) → AllByRecursion (IsOutside tmp) before → IsOutside tmp p → AllByRecursion (IsOutside tmp) after →
+        (before : List Names) (p : Names) (after : List Names) (s : Sight ℕ) (k : ℕ) (r : Names) → AllByRecursion (IsNotIn tmp) before → IsNotIn tmp p → AllByRecursion (IsNotIn tmp) after →
         outs_done tmp number s k (before ++ p ∷ after) (tmp ∷ number (k + length before) ∷ r) ≡ unless (hits before (p ++ r)) (s (p ++ r)) }
 {}
 
 /// AllByRecursion out is accepted.
 pub fn outs_go()
     ensures { (tmp : List ℕ) (number : ℕ → List ℕ) → ((i j : ℕ) → number i ≡ number j → i ≡ j) → (is_dir : ℕ → Bool) →
-        (paths : List Names) (s : Sight ℕ) (k : ℕ) → AllByRecursion (IsOutside tmp) paths → NoneBelow paths → AllByRecursion (λ path. is_some (s path) ≡ true) paths →
+        (paths : List Names) (s : Sight ℕ) (k : ℕ) → AllByRecursion (IsNotIn tmp) paths → NoneBelow paths → AllByRecursion (λ path. is_some (s path) ≡ true) paths →
         ((node : ℕ) × (s (tmp ∷ []) ≡ Some node) × (is_dir node ≡ true)) → ((j : ℕ) → k ≤ j → s (tmp ∷ number j ∷ []) ≡ None) → OutsGo is_dir tmp number s k paths }
 {}
 
@@ -65,7 +65,7 @@ pub fn alike_below()
 pub fn puts_stand()
     ensures { (alike : ℕ → ℕ → Bool) (from to : Sight ℕ) (is_out is_put : Names → Bool) → Differ (λ a b. alike a b ≡ true) from to is_out is_put →
         (tmp : List ℕ) (number : ℕ → List ℕ) → ((i j : ℕ) → number i ≡ number j → i ≡ j) →
-        (puts : List (Placing ℕ)) (s : Sight ℕ) → AllByRecursion (IsOutside tmp) (targets puts) → NumberOnce puts → IsLinked is_put puts →
+        (puts : List (Placing ℕ)) (s : Sight ℕ) → AllByRecursion (IsNotIn tmp) (targets puts) → NumberOnce puts → IsLinked is_put puts →
         AllByRecursion (Ready (λ a b. alike a b ≡ true) from to is_out is_put tmp number s) puts → Stands (λ a b. alike a b ≡ true) to tmp s (targets puts) →
         Stands (λ a b. alike a b ≡ true) to tmp (puts_done tmp number s puts) [] }
 {}
@@ -75,7 +75,7 @@ pub fn puts_go()
     ensures { (alike : ℕ → ℕ → Bool) (from to : Sight ℕ) (is_out is_put : Names → Bool) → Differ (λ a b. alike a b ≡ true) from to is_out is_put →
         (tmp : List ℕ) (number : ℕ → List ℕ) → ((i j : ℕ) → number i ≡ number j → i ≡ j) →
         (is_dir : ℕ → Bool) → ((a b : ℕ) → alike a b ≡ true → is_dir a ≡ is_dir b) → HasDirs is_dir to →
-        (puts : List (Placing ℕ)) (s : Sight ℕ) → AllByRecursion (IsOutside tmp) (targets puts) → NumberOnce puts → IsLinked is_put puts →
+        (puts : List (Placing ℕ)) (s : Sight ℕ) → AllByRecursion (IsNotIn tmp) (targets puts) → NumberOnce puts → IsLinked is_put puts →
         AllByRecursion (Ready (λ a b. alike a b ≡ true) from to is_out is_put tmp number s) puts → Stands (λ a b. alike a b ≡ true) to tmp s (targets puts) →
         PutsGo is_dir tmp number s puts }
 {}
