@@ -43,7 +43,7 @@ pub fn outs_inside()
         outs_done tmp number s k (before ++ p ∷ after) (tmp ∷ number (k + length before) ∷ r) ≡ unless (hits before (p ++ r)) (s (p ++ r)) }
 {}
 
-/// AllByRecursion out is accepted.
+/// Each out is accepted.
 pub fn outs_go()
     ensures { (tmp : List ℕ) (number : ℕ → List ℕ) → ((i j : ℕ) → number i ≡ number j → i ≡ j) → (is_dir : ℕ → Bool) →
         (paths : List Names) (s : Sight ℕ) (k : ℕ) → AllByRecursion (IsNotIn tmp) paths → NoneBelow paths → AllByRecursion (λ path. is_some (s path) ≡ true) paths →
@@ -70,7 +70,7 @@ pub fn puts_stand()
         Stands (λ a b. alike a b ≡ true) to tmp (puts_done tmp number s puts) [] }
 {}
 
-/// AllByRecursion put is accepted.
+/// Each put is accepted.
 pub fn puts_go()
     ensures { (alike : ℕ → ℕ → Bool) (from to : Sight ℕ) (is_out is_put : Names → Bool) → Differ (λ a b. alike a b ≡ true) from to is_out is_put →
         (tmp : List ℕ) (number : ℕ → List ℕ) → ((i j : ℕ) → number i ≡ number j → i ≡ j) →
