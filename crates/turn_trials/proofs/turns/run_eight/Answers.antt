@@ -2,7 +2,7 @@ use Rattle.std.proofs.Common.{◌≡◌, List, sym, subst, rules, arith}
 use Rattle.std.proofs.lemmas.Grind.{common_steps}
 use Rattle.turn_lock.specs.Seats.{Seat, AreInOrder}
 use Rattle.turn_lock.proofs.Rows.{all_in_order}
-use Rattle.trials.proofs.turns.run_eight.Goals as goal
+use Rattle.turn_trials.proofs.turns.run_eight.Goals as goal
 
 pub finish-requires-clause-all : goal.finish-requires-clause-all
 finish-requires-clause-all g c =

@@ -2,7 +2,7 @@ use Rattle.std.proofs.Common.{rules, ◌≡◌, List, [], ◌∷◌, sym, subst,
 use Rattle.std.proofs.lemmas.Grind.{common_steps}
 use Rattle.turn_lock.specs.Seats.{Seat, AreAll}
 use Rattle.turn_lock.proofs.Order.{from_zero_in_order, in_order_are_all}
-use Rattle.trials.proofs.turns.Round.end.Goals as goal
+use Rattle.turn_trials.proofs.turns.Round.end.Goals as goal
 
 pub finish-requires-clause-all : goal.finish-requires-clause-all
 finish-requires-clause-all g c =
