@@ -1,9 +1,9 @@
 -- What is given or taken in pieces is given or taken.
-use Rattle.std.proofs.Common.{◌≡◌, ℕ, ◌+◌, ◌-◌, ◌≤◌, List, ◌++◌, length, take, drop, Option, None, Some, refl, ap, append_assoc, sym, ◌∙◌, subst, arith, length-take}
+use Rattle.std.proofs.Common.{◌≡◌, ℕ, ◌+◌, ◌-◌, ◌≤◌, List, [], ◌++◌, length, take, drop, Option, None, Some, refl, ap, append-nil, append_assoc, sym, ◌∙◌, subst, arith, length-take, length-append}
 use Rattle.std.proofs.lemmas.List.{take-take}
-use Rattle.std.proofs.Math.Seq.{take-add}
+use Rattle.std.proofs.Math.Seq.{take-add, take-length}
 use Rattle.std.specs.Io.KnownBytes.{prepend_known, append_known}
-use Rattle.hs_io.specs.Bytes.{Gives, Takes}
+use Rattle.hs_io.specs.Bytes.{Gives, Takes, TakesSome, GivesWithin, GivesPast}
 
 prepend_known-append : (a b : List ℕ) (rest : Option (List ℕ)) → prepend_known (a ++ b) rest ≡ prepend_known a (prepend_known b rest)
 prepend_known-append a b None = refl
@@ -38,3 +38,36 @@ pub Gives-piece : (before middle now : Option (List ℕ)) (old new : List ℕ) (
     → Gives before middle (take filled old) → Gives middle now (take n (drop filled new)) → Gives before now (take (filled + n) new)
 Gives-piece before middle now old new filled n front one two =
     rw take-add (Gives-more before middle now (take filled new) (take n (drop filled new)) (subst (Gives before middle) (sym front) one) two)
+
+-- ---- none, some and all
+
+none_given : (rest : Option (List ℕ)) → Gives rest rest []
+none_given None = refl
+none_given (Some rest) = refl
+
+-- nothing was given
+pub gives_none : (limit : ℕ) (rest : Option (List ℕ)) → GivesWithin limit rest rest
+gives_none limit rest = record { bytes = []; given = none_given rest; within = omega arith }
+
+none_taken : (written : Option (List ℕ)) → Takes written written []
+none_taken None = refl
+none_taken (Some written) = ap Some (sym (append-nil written))
+
+-- nothing was taken
+pub takes_none : (written : Option (List ℕ)) (bytes : List ℕ) → TakesSome written written bytes
+takes_none written bytes = record { count = 0; within = omega arith; taken = none_taken written }
+
+-- all was taken
+pub takes_all : (before now : Option (List ℕ)) (bytes : List ℕ) → Takes before now bytes → TakesSome before now bytes
+takes_all before now bytes all = record { count = length bytes; within = omega arith; taken = subst (Takes before now) (sym (take-length bytes)) all }
+
+-- what a source tells before and after says how many bytes it gave
+gives_length : (rest : List ℕ) (now : Option (List ℕ)) (a b : List ℕ) → Gives (Some rest) now a → Gives (Some rest) now b → length a ≡ length b
+gives_length rest None a b one two = absurd (cc)
+gives_length rest (Some left) a b one two =
+    let same : a ++ left ≡ b ++ left = cc in
+    omega (arith, length-append a left, length-append b left, ap length same)
+
+-- a byte past the limit and none are two things
+pub past_not_within : (limit : ℕ) (rest : List ℕ) (now : Option (List ℕ)) → GivesPast limit (Some rest) now → GivesWithin limit (Some rest) now → ⊥
+past_not_within limit rest now past within = omega (arith, gives_length rest now past.bytes within.bytes past.given within.given, past.past, within.within)

@@ -1,4 +1,5 @@
 pub mod Bytes
 pub mod Errors
+pub mod Lost
 pub mod Memory
 pub mod Standard

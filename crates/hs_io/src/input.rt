@@ -1,8 +1,9 @@
 //! Sources of bytes, and the loop that reads one to its end.
-ghost use Rattle.std.specs.Prelude.{◌≡◌, ◌+◌, ◌<◌, ◌≤◌, List, ℕ, Option, Some, codes, length, take, drop, IfOk, IfSome, OnOk, OnErr, IsErrOf};
+ghost use Rattle.std.specs.Prelude.{◌≡◌, ◌+◌, ◌<◌, ◌≤◌, List, ℕ, Option, Some, codes, length, take, drop, IfOk, IfErr, IfSome, OnOk, OnErr, IsErrOf};
 ghost use Rattle.hs_io.specs.declared.input.InputErr.TheVariants.{Failed as failed, NoMemory as no_memory};
 ghost use Rattle.hs_io.specs.Bytes.{Gives, IsEnded};
 ghost use Rattle.hs_io.specs.Errors.{input_err_text};
+ghost use Rattle.hs_io.specs.Lost.{IsLost};
 ghost use Rattle.hs_types.specs.Faults.{Rose};
 
 use hs_types::{List, NoMemory};
@@ -108,12 +109,10 @@ pub fn read_all<S: Source>(
     ensures whole { IfOk result (λ bytes. IfSome (S.rest source.old) (λ rest. bytes ≡ rest)) }
     ensures within { IfOk result (λ bytes. length bytes ≤ limit) }
 
-    // One byte more than the limit was read, and not a byte past it.
-    ensures too_large { IsErrOf result InputErr.TooLarge → ((bytes : List ℕ) × (length bytes ≡ limit + 1)
-        × Gives (S.rest source.old) (S.rest source.new) bytes) }
+    // TooLarge comes exactly where one byte past the limit was read, and no further one is read then.
+    ensures lost { IfErr result (IsLost limit (S.rest source.old) (S.rest source.new)) }
     ensures too_long { IsErrOf result InputErr.TooLarge → IfSome (S.rest source.old) (λ rest. limit < length rest) }
 
-    ensures lost { OnErr result ((bytes : List ℕ) × Gives (S.rest source.old) (S.rest source.new) bytes) }
     ensures count { S.faults source.old ≤ S.faults source.new }
     ensures cause { IsErrOf result InputErr.Failed → Rose (S.faults source.old) (S.faults source.new) }
 {

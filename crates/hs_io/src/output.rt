@@ -1,7 +1,7 @@
 //! Sinks of bytes, and the loop that writes all bytes to one.
 ghost use Rattle.std.specs.Prelude.{◌≡◌, ◌<◌, ◌≤◌, List, ℕ, Option, [], Ok, Some, length, take, IfOk, OnOk, OnErr, IsErrOf};
 ghost use Rattle.hs_io.specs.declared.output.SinkErr.TheVariants.{Failed as failed, NoMemory as no_memory};
-ghost use Rattle.hs_io.specs.Bytes.{Takes};
+ghost use Rattle.hs_io.specs.Bytes.{Takes, TakesSome};
 ghost use Rattle.hs_io.specs.Errors.{sink_err_text};
 ghost use Rattle.hs_types.specs.Faults.{Rose};
 
@@ -77,8 +77,7 @@ pub trait Sink: Drop {
 /// Writes all the bytes, or up to the first call that fails.
 pub fn write_all<O: Sink>(sink: &mut O, bytes: &[u8]) -> Result<(), SinkErr>
     ensures written { OnOk result (Takes (O.written sink.old) (O.written sink.new) bytes.now) }
-    ensures prefix { OnErr result ((n : ℕ) × (n ≤ length bytes.now)
-        × Takes (O.written sink.old) (O.written sink.new) (take n bytes.now)) }
+    ensures prefix { OnErr result (TakesSome (O.written sink.old) (O.written sink.new) bytes.now) }
     ensures count { O.faults sink.old ≤ O.faults sink.new }
     ensures cause { IsErrOf result SinkErr.Failed → Rose (O.faults sink.old) (O.faults sink.new) }
 

@@ -1,6 +1,6 @@
 -- What a call of the program promises.
-use Rattle.std.specs.Prelude.{◌≡◌, ℕ, ◌+◌, ◌≤◌, Bool, true, false, bytes_eq, codes, List, [], ◌∷◌, length, Option, Some, None, Ok, Err}
-use Rattle.hs_io.specs.Bytes.{Gives, Takes, IsEnded}
+use Rattle.std.specs.Prelude.{◌≡◌, ℕ, ◌≤◌, Bool, true, false, bytes_eq, codes, List, [], ◌∷◌, length, Option, Some, None, Ok, Err}
+use Rattle.hs_io.specs.Bytes.{Gives, IsEnded, TakesSome}
 use Rattle.script_text.specs.declared.script.Script.{Script}
 use Rattle.script_text.specs.declared.fault.FaultKind.{FaultKind}
 use Rattle.script_text.specs.Scripts.{meaning_of}
@@ -39,17 +39,16 @@ pub record IsRunOfInput (source_tells target_tells : Bool) (before now : Option 
   pub script_read : IsScriptRead before now script
   pub run : IsRunInTurn source_tells target_tells 1000 script.clients script.lines ran
 
+-- it was run so, and of the text of the run a part from the front was written
+pub record IsCutShort (source_tells target_tells : Bool) (before now written_before written_now : Option (List ℕ)) (ran : Ran) : Type 0 where
+  pub run : IsRunOfInput source_tells target_tells before now ran
+  pub text : TakesSome written_before written_now (text_of ran)
+
 -- the first bad line of the bytes read is this
 pub record IsBadScript (before now : Option (List ℕ)) (line : ℕ) (kind : FaultKind) : Type 0 where
   pub bytes : List ℕ
   pub read : WasRead before now bytes
   pub means : meaning_of bytes ≡ Err (record { line = line; kind = kind })
-
--- one byte more than an input has was read
-pub record IsTooLarge (before now : Option (List ℕ)) : Type 0 where
-  pub bytes : List ℕ
-  pub given : Gives before now bytes
-  pub more : length bytes ≡ most_bytes + 1
 
 abbrev pub no_end : End
 no_end = record { tree = []; counts = record { rows = 0; records = 0; list_entries = 0; snapshots = 0; blocks = 0 } }

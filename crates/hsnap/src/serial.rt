@@ -1,9 +1,10 @@
 //! The top call: from bytes to bytes, one call after the other.
-ghost use Rattle.std.specs.Prelude.{◌≡◌, ◌≤◌, ◌<◌, ◌↔◌, true, false, List, [], ℕ, Option, Some, Ok, Err, is_some, length, IfOk, IfErr, IfSome, OnOk, OnErr};
+ghost use Rattle.std.specs.Prelude.{◌≡◌, ◌≤◌, ◌<◌, ◌↔◌, ◌⊎◌, true, false, List, [], ℕ, Option, Some, Ok, Err, is_some, length, IfOk, IfErr, IfSome, OnOk, OnErr};
 ghost use Rattle.std.specs.List.{list_all};
-ghost use Rattle.hs_io.specs.Bytes.{Takes};
+ghost use Rattle.hs_io.specs.Bytes.{Takes, TakesSome, GivesWithin, GivesPast};
 ghost use Rattle.hs_types.specs.Faults.{Rose};
 ghost use Rattle.namenode_write.specs.Consistent.{fault_count};
+ghost use Rattle.namenode_write.specs.Counted.{RisesAtMost};
 ghost use Rattle.script_text.specs.Scripts.{meaning_of};
 ghost use Rattle.script_text.specs.Today.{is_line_today};
 ghost use Rattle.script_text.specs.declared.fault.FaultKind.{FaultKind};
@@ -12,7 +13,7 @@ ghost use Rattle.run_output.specs.Run.{IsRunInTurn};
 ghost use Rattle.run_output.specs.Text.{text_of as plain_text_of};
 ghost use Rattle.script_text.specs.Order.{are_ordered};
 ghost use Rattle.hsnap.specs.ReadStatus.{IsReadCause};
-ghost use Rattle.hsnap.specs.Serial.{is_serial as is_plain_serial, most_bytes, IsScriptRead, IsRunOfInput, IsBadScript, IsTooLarge, IsScriptOrNoMemory, is_too_large_or_no_memory, not_run, no_end as plain_no_end, is_early, is_ok_or_no_memory};
+ghost use Rattle.hsnap.specs.Serial.{is_serial as is_plain_serial, most_bytes, IsScriptRead, IsRunOfInput, IsCutShort, IsBadScript, IsScriptOrNoMemory, is_too_large_or_no_memory, not_run, no_end as plain_no_end, is_early, is_ok_or_no_memory};
 
 use block_store::BlockStore;
 use hs_io::{InputErr, Sink, SinkErr, Source, read_all, write_all};
@@ -90,6 +91,7 @@ fn read_script<I: Source>(alloc: Global, input: &mut I) -> Result<Script, Status
 /// Writes the text of a run, and answers the status that this gives.
 fn write_text<O: Sink>(alloc: Global, ran: &Ran, output: &mut O) -> Status
     ensures ok { result ≡ Status.Ok → Takes (O.written output.old) (O.written output.new) (plain_text_of ran.now) }
+    ensures some { TakesSome (O.written output.old) (O.written output.new) (plain_text_of ran.now) }
     ensures cause { result ≡ Status.WriteFault → Rose (O.faults output.old) (O.faults output.new) }
     ensures late { is_early result ≡ false }
     ensures count { O.faults output.old ≤ O.faults output.new }
@@ -118,11 +120,14 @@ fn run_and_write<O: Sink, B: BlockStore>(
     requires order { are_ordered script.clients 0 script.lines ≡ true }
     requires source_empty { IfSome (B.blocks source_blocks) (λ map. map ≡ []) }
     requires target_empty { IfSome (B.blocks target_blocks) (λ map. map ≡ []) }
-    ensures ok { result.status ≡ Status.Ok → IsRunInTurn (is_some (B.blocks source_blocks)) (is_some (B.blocks target_blocks)) 1000 script.clients script.lines result × Takes (O.written output.old) (O.written output.new) (plain_text_of result) }
+    ensures text { result.status ≡ Status.Ok → Takes (O.written output.old) (O.written output.new) (plain_text_of result) }
+    ensures run { (IsRunInTurn (is_some (B.blocks source_blocks)) (is_some (B.blocks target_blocks)) 1000 script.clients script.lines result × TakesSome (O.written output.old) (O.written output.new) (plain_text_of result))
+        ⊎ ((result ≡ not_run Status.NoMemory) × (output.new ≡ output.old)) }
     ensures cause { result.status ≡ Status.WriteFault → Rose (O.faults output.old) (O.faults output.new) }
     ensures late { is_early result.status ≡ false }
     ensures count { O.faults output.old ≤ O.faults output.new }
-    ensures faulted { (most : ℕ) → ((store : B) → B.faults store ≤ most) → (fault_count result.source ≤ most) × (fault_count result.target ≤ most) }
+    ensures source_faulted { (most : ℕ) → RisesAtMost most B.faults (B.faults source_blocks) → fault_count result.source ≤ most }
+    ensures target_faulted { (most : ℕ) → RisesAtMost most B.faults (B.faults target_blocks) → fault_count result.target ≤ most }
 {
     let options = Options {
         page: PageSize::greatest(),
@@ -158,15 +163,25 @@ pub fn serial<I: Source, O: Sink, B: BlockStore>(
     ensures ok { result.status ≡ Status.Ok → IsRunOfInput (is_some (B.blocks source_blocks)) (is_some (B.blocks target_blocks)) (I.rest input.old) (I.rest input.new) result }
     ensures text { result.status ≡ Status.Ok → Takes (O.written output.old) (O.written output.new) (plain_text_of result) }
 
-    // The causes of the other statuses. Want of memory is free.
+    // The causes of the other statuses.
     ensures usage { (result.status ≡ Status.Usage) ↔ (is_plain_serial words.now ≡ false) }
     ensures script { (line : ℕ) (kind : FaultKind) → result.status ≡ Status.Script line kind → IsBadScript (I.rest input.old) (I.rest input.new) line kind }
-    ensures too_large { result.status ≡ Status.TooLarge → IsTooLarge (I.rest input.old) (I.rest input.new) }
     ensures read_fault { result.status ≡ Status.ReadFault → Rose (I.faults input.old) (I.faults input.new) }
     ensures write_fault { result.status ≡ Status.WriteFault → Rose (O.faults output.old) (O.faults output.new) }
 
-    // A fault of writing comes only behind a script.
-    ensures written_scripts { result.status ≡ Status.WriteFault → (script : Script) × IsScriptRead (I.rest input.old) (I.rest input.new) script }
+    // TooLarge comes exactly where one byte past the limit was read. With every other status no such byte was.
+    ensures too_large { result.status ≡ Status.TooLarge → GivesPast most_bytes (I.rest input.old) (I.rest input.new) }
+    ensures within { (result.status ≡ Status.TooLarge → ⊥) → GivesWithin most_bytes (I.rest input.old) (I.rest input.new) }
+    ensures past { (rest : List ℕ) → I.rest input.old ≡ Some rest →
+        GivesPast most_bytes (I.rest input.old) (I.rest input.new) → result.status ≡ Status.TooLarge }
+
+    // After a fault of writing the answer is a run of the script, as with status Ok, and a part of its text from the front
+    // was written. Want of memory is free: it ends a run so, or nothing was run, and nothing was written.
+    ensures cut_short { result.status ≡ Status.WriteFault →
+        IsCutShort (is_some (B.blocks source_blocks)) (is_some (B.blocks target_blocks)) (I.rest input.old) (I.rest input.new) (O.written output.old) (O.written output.new) result }
+    ensures no_memory { result.status ≡ Status.NoMemory →
+        IsCutShort (is_some (B.blocks source_blocks)) (is_some (B.blocks target_blocks)) (I.rest input.old) (I.rest input.new) (O.written output.old) (O.written output.new) result
+        ⊎ ((result ≡ not_run Status.NoMemory) × (output.new ≡ output.old)) }
 
     // With the early statuses nothing was written, and nothing was run.
     ensures unwritten { is_early result.status ≡ true → output.new ≡ output.old }
@@ -187,8 +202,12 @@ pub fn serial<I: Source, O: Sink, B: BlockStore>(
     ensures large { (rest : List ℕ) → is_plain_serial words.now ≡ true → I.rest input.old ≡ Some rest → most_bytes < length rest →
         (Rose (I.faults input.old) (I.faults input.new) → ⊥) → is_too_large_or_no_memory result.status ≡ true }
 
-    // Over stores whose counts never rise no journal has an entry of a fault.
-    ensures faulted { (most : ℕ) → ((store : B) → B.faults store ≤ most) → (fault_count result.source ≤ most) × (fault_count result.target ≤ most) }
+    // Over stores whose counts never rise the journals have no faulted entry; where they rise at most so often, there
+    // are at most so many.
+    ensures faultless { ((source : B) → Rose (B.faults source_blocks) (B.faults source) → ⊥) → ((target : B) → Rose (B.faults target_blocks) (B.faults target) → ⊥) →
+        (fault_count result.source ≡ 0) × (fault_count result.target ≡ 0) }
+    ensures source_faulted { (most : ℕ) → RisesAtMost most B.faults (B.faults source_blocks) → fault_count result.source ≤ most }
+    ensures target_faulted { (most : ℕ) → RisesAtMost most B.faults (B.faults target_blocks) → fault_count result.target ≤ most }
 
     ensures reads { I.faults input.old ≤ I.faults input.new }
     ensures writes { O.faults output.old ≤ O.faults output.new }

@@ -1,6 +1,7 @@
 pub mod Bare
 pub mod Appends
 pub mod Causes
+pub mod CountedLaws
 pub mod Files
 pub mod Freed
 pub mod Grown

@@ -1,4 +1,5 @@
 pub mod Consistent
+pub mod Counted
 pub mod Extends
 pub mod Journal
 pub mod Kept

@@ -11,6 +11,7 @@ ghost use Rattle.hs_plain.specs.Lines.{tree_lines as plain_tree_lines, live_coun
 ghost use Rattle.block_store.specs.Changes.{Changes};
 ghost use Rattle.hs_types.specs.Faults.{Rose};
 ghost use Rattle.namenode_write.specs.Consistent.{IsConsistent, fault_count};
+ghost use Rattle.namenode_write.specs.Counted.{AreCounted};
 
 use crate::namespace::{Namespace, make_call};
 use block_store::BlockStore;
@@ -202,9 +203,10 @@ impl<B: BlockStore> Namenode<B> {
         ensures cause { is_plain_store_fault result.reply ≡ true → Rose (B.faults self.old.store) (B.faults self.new.store) }
         ensures faulted { is_plain_store_fault result.reply ≡ true → (uses_store call ≡ true) × (is_plain_ok_reply (answer (plain_after self.old.entries) call) ≡ true) }
 
-        // It tells its bytes as before, and its count doesn't fall.
+        // It tells its bytes as before. Its count doesn't fall, and it rose where a faulted entry came.
         ensures tells { is_some (B.blocks self.new.store) ≡ is_some (B.blocks self.old.store) }
         ensures count { B.faults self.old.store ≤ B.faults self.new.store }
+        ensures counted { AreCounted B.faults self.old self.new }
     {
         let mut journal = self.journal.take();
         let answered = do_in(

@@ -6,6 +6,7 @@ ghost use Rattle.hs_types.specs.declared.ids.CallerId.{CallerId};
 ghost use Rattle.hs_plain.specs.Answer.{is_shared};
 ghost use Rattle.hs_plain.specs.Served.{is_served};
 ghost use Rattle.hs_plain.specs.Legal.{IsLegalCall, entry_left, leaves_entry};
+ghost use Rattle.namenode_write.specs.Counted.{AreCounted};
 ghost use Rattle.script_runner.specs.InTurn.{IsNext};
 
 use block_store::BlockStore;
@@ -64,6 +65,7 @@ fn make_call<B: BlockStore>(
     ensures place { result.position ≡ length namenode.old.entries }
     ensures appended { namenode.new.entries ≡ namenode.old.entries ++ option_to_list (entry_left caller (record { seq = seq; call = call; told = result })) }
     ensures tells { is_some (B.blocks namenode.new.store) ≡ is_some (B.blocks namenode.old.store) }
+    ensures counted { AreCounted B.faults namenode.old namenode.new }
 {
     if is_exclusive(&call) {
         namenode.do_call(caller, seq, call)
@@ -83,6 +85,7 @@ pub(crate) fn make_next<B: BlockStore>(
     requires { is_served call ≡ true }
     ensures made { IsNext (is_some (B.blocks namenode.old.store)) caller.0 namenode.old.entries seq.old namenode.new.entries (record { seq = seq.new; call = call; told = result }) }
     ensures tells { is_some (B.blocks namenode.new.store) ≡ is_some (B.blocks namenode.old.store) }
+    ensures counted { AreCounted B.faults namenode.old namenode.new }
 {
     *seq = seq.saturating_add(1);
     make_call(alloc, namenode, caller, *seq, call)

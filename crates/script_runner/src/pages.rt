@@ -2,6 +2,7 @@
 ghost use Rattle.std.specs.Prelude.{◌≡◌, ◌≤◌, ◌<◌, ◌^◌, Bool, true, Some, is_some, length, IfOk, OnOk};
 ghost use Rattle.hs_types.specs.declared.call.Call.TheVariants as calls;
 ghost use Rattle.hs_plain.specs.Served.{is_served};
+ghost use Rattle.namenode_write.specs.Counted.{AreCounted};
 ghost use Rattle.script_text.specs.Today.{is_command_today, is_pages_today};
 ghost use Rattle.run_output.specs.Calls.{behind as plain_behind, first_call as plain_first_call, IsOne, AreAllPages};
 ghost use Rattle.script_runner.specs.Pages.{has_greatest_page, IsWithin, AreRun, AreCommands};
@@ -106,6 +107,7 @@ fn ask_pages<B: BlockStore>(
     requires greatest { has_greatest_page first ≡ true }
     ensures ran { IfOk result (AreRun (is_some (B.blocks namenode.old.store)) caller.0 namenode.old.entries seq.old namenode.new.entries seq.new (AreAllPages 1000 (Some first))) }
     ensures tells { is_some (B.blocks namenode.new.store) ≡ is_some (B.blocks namenode.old.store) }
+    ensures counted { OnOk result (AreCounted B.faults namenode.old namenode.new) }
 {
     let mut replies = Vec::new(alloc);
     let mut next = Some(first);
@@ -128,6 +130,7 @@ fn ask_once<B: BlockStore>(
     requires served { is_served call ≡ true }
     ensures ran { IfOk result (AreRun (is_some (B.blocks namenode.old.store)) caller.0 namenode.old.entries seq.old namenode.new.entries seq.new (IsOne (Some call))) }
     ensures tells { is_some (B.blocks namenode.new.store) ≡ is_some (B.blocks namenode.old.store) }
+    ensures counted { OnOk result (AreCounted B.faults namenode.old namenode.new) }
 {
     let mut replies = Vec::new(alloc);
     replies.push(make_next(alloc, namenode, caller, seq, call))?;
@@ -148,6 +151,7 @@ pub(crate) fn ask_command<B: BlockStore>(
     requires today { is_command_today command ≡ true }
     ensures ran { IfOk result (AreRun (is_some (B.blocks namenode.old.store)) caller.0 namenode.old.entries seq.old namenode.new.entries seq.new (AreCommands command)) }
     ensures tells { is_some (B.blocks namenode.new.store) ≡ is_some (B.blocks namenode.old.store) }
+    ensures counted { OnOk result (AreCounted B.faults namenode.old namenode.new) }
 {
     match command {
         Command::Call { call, .. } => ask_once(alloc, namenode, caller, seq, call),

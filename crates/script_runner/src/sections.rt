@@ -2,6 +2,7 @@
 ghost use Rattle.std.specs.Prelude.{◌≡◌, ◌≤◌, ◌+◌, ◌++◌, ◌∷◌, [], true, false, if◌then◌else◌, is_some, length, IfOk, OnOk};
 ghost use Rattle.std.specs.Option.{option_to_list};
 ghost use Rattle.std.specs.List.{list_all};
+ghost use Rattle.namenode_write.specs.Counted.{AreCounted};
 ghost use Rattle.script_text.specs.Today.{is_command_today, is_line_today};
 ghost use Rattle.run_output.specs.Calls.{side_of as plain_side_of};
 ghost use Rattle.run_output.specs.Run.{is_section as plain_is_section, what_of as plain_what_of};
@@ -55,6 +56,8 @@ fn run_command<B: BlockStore>(
     ensures caller { client.new.caller ≡ client.old.caller }
     ensures source_tells { is_some (B.blocks nodes.new.source.store) ≡ is_some (B.blocks nodes.old.source.store) }
     ensures target_tells { is_some (B.blocks nodes.new.target.store) ≡ is_some (B.blocks nodes.old.target.store) }
+    ensures source_counted { OnOk result (AreCounted B.faults nodes.old.source nodes.new.source) }
+    ensures target_counted { OnOk result (AreCounted B.faults nodes.old.target nodes.new.target) }
 {
     match side_of(&command) {
         Side::Source => ask_command(
@@ -103,6 +106,8 @@ fn run_line<B: BlockStore>(
     ensures caller { client.new.caller ≡ client.old.caller }
     ensures source_tells { is_some (B.blocks nodes.new.source.store) ≡ is_some (B.blocks nodes.old.source.store) }
     ensures target_tells { is_some (B.blocks nodes.new.target.store) ≡ is_some (B.blocks nodes.old.target.store) }
+    ensures source_counted { OnOk result (AreCounted B.faults nodes.old.source nodes.new.source) }
+    ensures target_counted { OnOk result (AreCounted B.faults nodes.old.target nodes.new.target) }
 {
     let ScriptLine { line, command, .. } = line;
     let side = side_of(&command);
@@ -165,6 +170,8 @@ fn run_section<B: BlockStore>(
     ensures caller { client.new.caller ≡ client.old.caller }
     ensures source_tells { is_some (B.blocks nodes.new.source.store) ≡ is_some (B.blocks nodes.old.source.store) }
     ensures target_tells { is_some (B.blocks nodes.new.target.store) ≡ is_some (B.blocks nodes.old.target.store) }
+    ensures source_counted { OnOk result (AreCounted B.faults nodes.old.source nodes.new.source) }
+    ensures target_counted { OnOk result (AreCounted B.faults nodes.old.target nodes.new.target) }
 {
     let mut items = Vec::new(alloc);
     let mut next = next_in(rest, section);
@@ -193,6 +200,8 @@ fn run_client<B: BlockStore>(
     ensures today { OnOk result (list_all is_line_today rest.new.items ≡ true) }
     ensures source_tells { is_some (B.blocks nodes.new.source.store) ≡ is_some (B.blocks nodes.old.source.store) }
     ensures target_tells { is_some (B.blocks nodes.new.target.store) ≡ is_some (B.blocks nodes.old.target.store) }
+    ensures source_counted { OnOk result (AreCounted B.faults nodes.old.source nodes.new.source) }
+    ensures target_counted { OnOk result (AreCounted B.faults nodes.old.target nodes.new.target) }
 {
     let mut client = Client::new(CallerId(number));
     let section = Section::Client(number);
@@ -220,6 +229,8 @@ fn run_clients<B: BlockStore>(
     ensures order { OnOk result (are_ordered clients (clients + 1) rest.new.items ≡ true) }
     ensures source_tells { is_some (B.blocks nodes.new.source.store) ≡ is_some (B.blocks nodes.old.source.store) }
     ensures target_tells { is_some (B.blocks nodes.new.target.store) ≡ is_some (B.blocks nodes.old.target.store) }
+    ensures source_counted { OnOk result (AreCounted B.faults nodes.old.source nodes.new.source) }
+    ensures target_counted { OnOk result (AreCounted B.faults nodes.old.target nodes.new.target) }
 {
     for index in 0..clients {
         let log = run_client(alloc, nodes, page, index + 1, rest)?;
@@ -247,6 +258,8 @@ pub(crate) fn run_sections<B: BlockStore>(
     ensures ran { IfOk result (AreSectionsRun (is_some (B.blocks nodes.old.source.store)) (is_some (B.blocks nodes.old.target.store)) clients rest.old.items nodes.new.source.entries nodes.new.target.entries) }
     ensures source_tells { is_some (B.blocks nodes.new.source.store) ≡ is_some (B.blocks nodes.old.source.store) }
     ensures target_tells { is_some (B.blocks nodes.new.target.store) ≡ is_some (B.blocks nodes.old.target.store) }
+    ensures source_counted { OnOk result (AreCounted B.faults nodes.old.source nodes.new.source) }
+    ensures target_counted { OnOk result (AreCounted B.faults nodes.old.target nodes.new.target) }
 {
     let mut logs = Vec::new(alloc);
     let mut client = Client::new(CallerId(0));

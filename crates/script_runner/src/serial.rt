@@ -4,6 +4,7 @@ ghost use Rattle.std.specs.List.{list_all};
 ghost use Rattle.script_text.specs.Today.{is_line_today};
 ghost use Rattle.run_output.specs.Run.{IsEndOf, IsRunInTurn};
 ghost use Rattle.namenode_write.specs.Consistent.{fault_count};
+ghost use Rattle.namenode_write.specs.Counted.{RisesAtMost};
 ghost use Rattle.script_text.specs.Order.{are_ordered};
 
 use crate::sections::{Nodes, run_sections};
@@ -58,8 +59,10 @@ pub fn serial_script<B: BlockStore>(
     ensures run { IfOk result (IsRunInTurn (is_some (B.blocks source_blocks)) (is_some (B.blocks target_blocks)) options.now.page script.clients script.lines) }
     ensures status { IfOk result (λ ran. ran.status ≡ Status.Ok) }
 
-    // There are no more faulted entries than faults of the store that has counted most.
-    ensures faulted { (most : ℕ) → ((store : B) → B.faults store ≤ most) → IfOk result (λ ran. (fault_count ran.source ≤ most) × (fault_count ran.target ≤ most)) }
+    // A journal has a faulted entry only where its store's count rose: where it rises at most so often, there are at most
+    // so many.
+    ensures source_faulted { (most : ℕ) → RisesAtMost most B.faults (B.faults source_blocks) → IfOk result (λ ran. fault_count ran.source ≤ most) }
+    ensures target_faulted { (most : ℕ) → RisesAtMost most B.faults (B.faults target_blocks) → IfOk result (λ ran. fault_count ran.target ≤ most) }
 {
     let clients = script.clients;
     let mut rest = VecDeque::from_vec(script.into_lines());

@@ -1,5 +1,6 @@
 use Rattle.std.specs.Prelude.{is_some}
 use Rattle.std.proofs.Common.{ap, subst, ◌∙◌}
+use Rattle.namenode_write.proofs.CountedLaws.{counted_none, counted_then}
 use Rattle.run_output.specs.Calls.{behind}
 use Rattle.script_runner.specs.Pages.{IsGreatest}
 use Rattle.script_runner.proofs.Served.{greatest_served}
@@ -26,6 +27,7 @@ loop-next-preserved g c = record {
       c.loop-next.invariant.tells c.in-Some.is (c.in_ok-next.ensures.next ∙ ap (λ n. behind n c.make_next-answered.result.reply) c.requires.page) c.in_ok-push.ensures.items c.requires.few
       c.loop-next.invariant.ran c.make_next-answered.ensures.made;
   tells = c.make_next-answered.ensures.tells ∙ c.loop-next.invariant.tells;
+  counted = counted_then g.B.BlockStore.faults c.args.namenode.now c.loop-next.namenode c.make_next-answered.new.namenode c.loop-next.invariant.counted c.make_next-answered.ensures.counted;
 }
 
 pub returns-clause-ran : goal.returns-clause-ran

@@ -1,6 +1,7 @@
 use Rattle.std.specs.Prelude.{is_some}
 use Rattle.std.proofs.Common.{◌+◌, refl, ◌∙◌}
 use Rattle.script_text.specs.declared.script.Section.TheVariants as sections
+use Rattle.namenode_write.proofs.CountedLaws.{counted_none, counted_then}
 use Rattle.script_runner.proofs.Clients.{clients_grow}
 use Rattle.script_runner.proofs.Order.{section_order, client_among}
 use Rattle.script_runner.proofs.sections.run_clients.Goals as goal
@@ -19,4 +20,6 @@ loop-index-preserved g c = record {
       (client_among c.args.clients c.loop-index.index c.loop-index-test.true) c.in_ok-log.ensures.ran.lines c.in_ok-log.ensures.ran.of_section c.in_ok-log.ensures.past c.loop-index.invariant.order;
   source_tells = c.run_client.ensures.source_tells ∙ c.loop-index.invariant.source_tells;
   target_tells = c.run_client.ensures.target_tells ∙ c.loop-index.invariant.target_tells;
+  source_counted = counted_then g.B.BlockStore.faults c.args.nodes.now.source c.loop-index.nodes.source c.run_client.new.nodes.source c.loop-index.invariant.source_counted c.in_ok-log.ensures.source_counted;
+  target_counted = counted_then g.B.BlockStore.faults c.args.nodes.now.target c.loop-index.nodes.target c.run_client.new.nodes.target c.loop-index.invariant.target_counted c.in_ok-log.ensures.target_counted;
 }

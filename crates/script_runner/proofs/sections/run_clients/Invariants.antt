@@ -3,6 +3,7 @@ use Rattle.std.specs.Prelude.{is_some}
 use Rattle.std.specs.List.{list_all}
 use Rattle.script_text.specs.Today.{is_line_today}
 use Rattle.script_text.specs.Order.{are_ordered}
+use Rattle.namenode_write.specs.Counted.{AreCounted}
 use Rattle.script_runner.specs.Sections.{HasRoom, AreClientsTo}
 use Rattle.script_runner.proofs.sections.run_clients.Given as goal
 
@@ -15,4 +16,6 @@ invariant-loop-index g l = record {
   order : are_ordered l.fn.clients (l.index + 1) l.rest.items ≡ true;
   source_tells : is_some (g.B.BlockStore.blocks l.nodes.source.store) ≡ is_some (g.B.BlockStore.blocks l.initial.nodes.source.store);
   target_tells : is_some (g.B.BlockStore.blocks l.nodes.target.store) ≡ is_some (g.B.BlockStore.blocks l.initial.nodes.target.store);
+  source_counted : AreCounted g.B.BlockStore.faults l.initial.nodes.source l.nodes.source;
+  target_counted : AreCounted g.B.BlockStore.faults l.initial.nodes.target l.nodes.target;
 }

@@ -1,6 +1,7 @@
 use Rattle.std.specs.Prelude.{is_some}
 use Rattle.std.proofs.Common.{refl, ap, ◌∙◌}
 use Rattle.hs_types.specs.declared.ids.CallerId.{CallerId}
+use Rattle.namenode_write.proofs.CountedLaws.{counted_none, counted_then}
 use Rattle.script_runner.specs.Sections.{world}
 use Rattle.script_runner.proofs.Lines.{section_step, room_step, today_step, today_first, source_first, target_first, left_falls, section_end, past_end, section_starts, room_starts, today_starts}
 use Rattle.script_runner.proofs.sections.run_section.Goals as goal
@@ -16,6 +17,8 @@ loop-next-init g c = record {
   caller = refl;
   source_tells = refl;
   target_tells = refl;
+  source_counted = counted_none g.B.BlockStore.faults c.args.nodes.now.source;
+  target_counted = counted_none g.B.BlockStore.faults c.args.nodes.now.target;
 }
 
 pub loop-next-preserved : goal.loop-next-preserved
@@ -34,6 +37,8 @@ loop-next-preserved g c = record {
   caller = c.run_line.ensures.caller ∙ c.loop-next.invariant.caller;
   source_tells = c.run_line.ensures.source_tells ∙ c.loop-next.invariant.source_tells;
   target_tells = c.run_line.ensures.target_tells ∙ c.loop-next.invariant.target_tells;
+  source_counted = counted_then g.B.BlockStore.faults c.args.nodes.now.source c.loop-next.nodes.source c.run_line.new.nodes.source c.loop-next.invariant.source_counted c.in_ok-item.ensures.source_counted;
+  target_counted = counted_then g.B.BlockStore.faults c.args.nodes.now.target c.loop-next.nodes.target c.run_line.new.nodes.target c.loop-next.invariant.target_counted c.in_ok-item.ensures.target_counted;
 }
 
 pub returns-clause-ran : goal.returns-clause-ran

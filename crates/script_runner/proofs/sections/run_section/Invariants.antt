@@ -3,6 +3,7 @@ use Rattle.std.specs.Prelude.{is_some}
 use Rattle.std.specs.Option.{option_to_list}
 use Rattle.std.specs.List.{list_all}
 use Rattle.script_text.specs.Today.{is_line_today}
+use Rattle.namenode_write.specs.Counted.{AreCounted}
 use Rattle.script_runner.specs.Sections.{world, IsSectionRun, IsFront, HasRoom}
 use Rattle.script_runner.proofs.sections.run_section.Given as goal
 
@@ -18,6 +19,8 @@ invariant-loop-next g l =
       caller : l.client.caller ≡ l.initial.client.caller;
       source_tells : is_some (g.B.BlockStore.blocks l.nodes.source.store) ≡ is_some (g.B.BlockStore.blocks l.initial.nodes.source.store);
       target_tells : is_some (g.B.BlockStore.blocks l.nodes.target.store) ≡ is_some (g.B.BlockStore.blocks l.initial.nodes.target.store);
+      source_counted : AreCounted g.B.BlockStore.faults l.initial.nodes.source l.nodes.source;
+      target_counted : AreCounted g.B.BlockStore.faults l.initial.nodes.target l.nodes.target;
     }
 
 abbrev pub decreases-loop-next : goal.decreases-loop-next

@@ -5,6 +5,7 @@ use Rattle.script_text.specs.declared.script.Section.TheVariants as sections
 use Rattle.run_output.specs.declared.ran.ClientLog.{ClientLog}
 use Rattle.script_runner.specs.declared.client.Client.{Client}
 use Rattle.script_runner.specs.Sections.{world}
+use Rattle.namenode_write.proofs.CountedLaws.{counted_then}
 use Rattle.script_runner.proofs.Order.{section_order, finish_order, none_left}
 use Rattle.script_runner.proofs.WholeRuns.{fresh_is, sections_ran}
 use Rattle.script_runner.proofs.sections.run_sections.Goals as goal
@@ -34,3 +35,13 @@ returns-clause-ran g c =
     refl c.in_ok-finish.ensures.ran.lines c.in_ok-finish.ensures.ran.of_section c.in_ok-finish.ensures.past (finish_order c.args.clients c.run_clients.new.rest.items c.in_ok-run_clients.ensures.order)))
     (c.in_ok-push.ensures.items ∙ ap (λ (xs : List ClientLog). xs ++ c.log_of.result ∷ []) c.new-logs.ensures.items)
     (c.of.ensures ∙ c.in_ok-push-2.ensures.items) c.log_of.ensures c.log_of-2.ensures
+
+pub returns-clause-source_counted : goal.returns-clause-source_counted
+returns-clause-source_counted g c =
+    counted_then g.B.BlockStore.faults c.args.nodes.now.source c.run_section.new.nodes.source c.run_section-2.new.nodes.source c.in_ok-setup.ensures.source_counted
+    (counted_then g.B.BlockStore.faults c.run_section.new.nodes.source c.run_clients.new.nodes.source c.run_section-2.new.nodes.source c.in_ok-run_clients.ensures.source_counted c.in_ok-finish.ensures.source_counted)
+
+pub returns-clause-target_counted : goal.returns-clause-target_counted
+returns-clause-target_counted g c =
+    counted_then g.B.BlockStore.faults c.args.nodes.now.target c.run_section.new.nodes.target c.run_section-2.new.nodes.target c.in_ok-setup.ensures.target_counted
+    (counted_then g.B.BlockStore.faults c.run_section.new.nodes.target c.run_clients.new.nodes.target c.run_section-2.new.nodes.target c.in_ok-run_clients.ensures.target_counted c.in_ok-finish.ensures.target_counted)

@@ -1,6 +1,10 @@
-use Rattle.std.proofs.Common.{ap, ◌∙◌}
+use Rattle.std.proofs.Common.{◌≤◌, List, ap, sym, subst, ◌∙◌}
 use Rattle.std.specs.Prelude.{is_some}
+use Rattle.hs_types.specs.declared.journal.Entry.{Entry}
+use Rattle.namenode_write.specs.Consistent.{fault_count}
+use Rattle.namenode_write.specs.Counted.{AreCounted}
 use Rattle.namenode_write.specs.Journal.{Journal}
+use Rattle.namenode_write.proofs.CountedLaws.{few_faulted}
 use Rattle.script_runner.proofs.WholeRuns.{whole_run}
 use Rattle.script_runner.proofs.serial.serial_script.Goals as goal
 
@@ -12,3 +16,15 @@ returns-clause-run g c =
     (ap (λ (j : Journal g.row.B.Denot). is_some (g.B.BlockStore.blocks j.store)) c.in_ok-source.ensures) (ap (λ (j : Journal g.row.B.Denot). is_some (g.B.BlockStore.blocks j.store)) c.in_ok-target.ensures)
     c.requires.page (c.from_vec-rest.ensures.items ∙ c.into_lines.ensures) c.end-source_journal.ensures.entries c.end-target_journal.ensures.entries c.end-source_journal.ensures.proper c.end-target_journal.ensures.proper
     c.in_ok-source_end.ensures c.in_ok-target_end.ensures c.in_ok-logs.ensures.ran
+
+pub returns-clause-source_faulted : goal.returns-clause-source_faulted
+returns-clause-source_faulted g c = λ most rises.
+    subst (λ (entries : List Entry). fault_count entries ≤ most) (sym c.end-source_journal.ensures.entries)
+    (few_faulted g.B.BlockStore.faults c.args.source_blocks c.run_sections.new.nodes.source most
+    (subst (λ (first : Journal g.row.B.Denot). AreCounted g.B.BlockStore.faults first c.run_sections.new.nodes.source) c.in_ok-source.ensures c.in_ok-logs.ensures.source_counted) rises)
+
+pub returns-clause-target_faulted : goal.returns-clause-target_faulted
+returns-clause-target_faulted g c = λ most rises.
+    subst (λ (entries : List Entry). fault_count entries ≤ most) (sym c.end-target_journal.ensures.entries)
+    (few_faulted g.B.BlockStore.faults c.args.target_blocks c.run_sections.new.nodes.target most
+    (subst (λ (first : Journal g.row.B.Denot). AreCounted g.B.BlockStore.faults first c.run_sections.new.nodes.target) c.in_ok-target.ensures c.in_ok-logs.ensures.target_counted) rises)
