@@ -1,5 +1,5 @@
 //! Records and room behind one box. Where there is none, there are no records, and nothing is made.
-ghost use Rattle.std.specs.Prelude.{◌≡◌, ◌+◌, ◌-◌, ◌<◌, ◌≤◌, [], ◌∷◌, ◌++◌, length, map, max, IsOk, OnOk, OnErr, None};
+ghost use Rattle.std.specs.Prelude.{◌≡◌, ◌+◌, ◌-◌, ◌<◌, ◌≤◌, [], ◌∷◌, ◌++◌, length, map, max, IsTrue, IsOk, OnOk, OnErr, None};
 ghost use Rattle.dir_changes.specs.History.{change_last, note_added as with_added, note_removed as with_removed, combined_at, dropped_at, ids_of};
 ghost use Rattle.dir_changes.specs.Inside.{pasts_of, IsReady, records_in, edits_in, fresh_in, merge_in, IsPastReady, HasEdit, HasSpot};
 ghost use Rattle.dir_changes.specs.Recorded.{past_of};
@@ -43,6 +43,18 @@ pub fn ready_edit(alloc: Global, past: &mut Option<Box<DirPast>>) -> Result<(), 
             made
         }
         None => Ok(()),
+    }
+}
+
+/// Whether there is room for the next record and an edit.
+pub fn is_ready(past: &Option<Box<DirPast>>) -> bool
+    ensures edits { IsTrue result → 0 < edits_in past.now }
+    ensures starts { IsTrue result → 0 < one_if (fresh_in past.now) }
+    ensures ready { 0 < edits_in past.now → 0 < one_if (fresh_in past.now) → IsTrue result }
+{
+    match past {
+        Some(past) => past.edits > 0 && past.fresh.is_some(),
+        None => false,
     }
 }
 

@@ -12,7 +12,7 @@ ghost use Rattle.dir_changes.specs.Spare.{one_if};
 ghost use Rattle.dir_changes.specs.Rows.{KeepsRoom, UsesEdit, UsesStart, UsesMerge};
 
 use crate::boxed::{
-    combine_in, forget_fresh, let_go, note_added, note_removed, push_record, ready_all,
+    combine_in, forget_fresh, is_ready, let_go, note_added, note_removed, push_record, ready_all,
     ready_combine, ready_edit, ready_start, records_of,
 };
 use crate::child::Child;
@@ -209,6 +209,16 @@ impl DirRows {
         let alloc = self.children.allocator();
         self.children.reserve(3)?;
         ready_all(alloc, &mut self.past, &self.spot)
+    }
+
+    /// Whether the next `start_record` and an `add` or `remove` can't want memory.
+    pub fn is_ready(&self) -> bool
+        ensures sound { IsSound self.now.history }
+        ensures edits { IsTrue result → 0 < self.now.room.edits }
+        ensures starts { IsTrue result → 0 < self.now.room.starts }
+        ensures ready { 0 < self.now.room.edits → 0 < self.now.room.starts → IsTrue result }
+    {
+        is_ready(&self.past)
     }
 
     /// Lets the room go that was made and not used.

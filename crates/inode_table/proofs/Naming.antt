@@ -1,5 +1,5 @@
 -- How often rows are named.
-use Rattle.std.proofs.Common.{◌≡◌, ℕ, ◌+◌, ◌<◌, ◌≤◌, Bool, true, false, cond, List, [], ◌∷◌, ◌++◌, Option, Some, None, refl, sym, ap, subst, ◌∙◌, arith}
+use Rattle.std.proofs.Common.{◌≡◌, ℕ, ◌+◌, ◌<◌, ◌≤◌, Bool, true, false, cond, List, [], ◌∷◌, ◌++◌, Option, Some, None, length, refl, sym, ap, subst, ◌∙◌, arith}
 use Rattle.std.specs.Prelude.{◌≢◌, nat_le, nat_eq}
 use Rattle.std.specs.List.{Contains}
 use Rattle.std.specs.Option.{option_map}
@@ -17,14 +17,18 @@ use Rattle.hs_plain.specs.declared.state.FileBlocks.{FileBlocks}
 use Rattle.hs_plain.specs.Tree.{node_at, same_inode}
 use Rattle.hs_plain.proofs.ValidTrees.{first, second}
 use Rattle.hs_plain.proofs.ValidShapes.{by_last, none_some, same_some}
-use Rattle.dir_changes.specs.Entries.{Entries, name_order, id_at, has as has_name, with_entry}
-use Rattle.dir_changes.specs.History.{DirHistory, Past, ids_of, records_from, undo_all, added, change_last, note_added}
+use Rattle.dir_changes.specs.Entries.{Entries, name_order, id_at, has as has_name}
+use Rattle.dir_changes.specs.History.{DirHistory, Past, ids_of, records_from, undo_all, added, removed, removed_as, without_record, dropped_at}
+use Rattle.dir_changes.specs.Sound.{IsSound}
 use Rattle.dir_changes.proofs.UndoLaw.{id_at-undo, or_else}
+use Rattle.dir_changes.proofs.CountLaws.{counts-added, counts-removed, counts-combined}
 use Rattle.inode_table.specs.Reads.{Nodes, ReadsAs, IsNodes, Has, Child, child, id_of}
 use Rattle.inode_table.specs.Marks.{Mark}
-use Rattle.inode_table.specs.RowHistory.{RowHistory, RowState, File, Dir, Table, row_at, rows_at, shown, marks_of, mark_of, node_in, entries_in, spot_in, entries_of, id_order}
+use Rattle.inode_table.specs.RowHistory.{RowHistory, RowState, File, Dir, Table, row_at, rows_at, shown, marks_of, node_in, entries_in, spot_in, entries_of, id_order}
 use Rattle.inode_table.specs.Stands.{Stands, root_id}
-use Rattle.inode_table.specs.Names.{deleted_ids, named_in, times, times_named, Releases}
+use Rattle.dir_changes.specs.Counts.{times, deleted_ids, one_where, same_id, goes_to_deleted}
+use Rattle.inode_table.specs.Totals.{total}
+use Rattle.inode_table.specs.Names.{named_in, times_named, Releases}
 use Rattle.inode_table.proofs.Reading.{by_id, reads-alike}
 use Rattle.inode_table.proofs.Covers.{some_id}
 
@@ -93,13 +97,13 @@ module _ (before after : Table) (state : State FileBlocks) (issued : ℕ) (x : I
   kept : (s : ℕ) (top : InodeId) (f : Nodes FileBlocks) → (Has f x → ⊥) → ReadsAs (shown before s) top f → ReadsAs (shown after s) top f
   kept s top f never reads = reads-alike (shown before s) (shown after s) top f
       (record {
-        node = λ id h. ap (λ o. option_map (node_in id s) (option_map (λ (r : RowState). r.rows) o)) (step.there id (λ e. never (subst (Has f) e h)));
-        entries = λ id h. ap (λ o. entries_of s (option_map (λ (r : RowState). r.rows) o)) (step.there id (λ e. never (subst (Has f) e h)));
-        spot = λ id h. ap (λ o. option_map (spot_in s) (option_map (λ (r : RowState). r.rows) o)) (step.there id (λ e. never (subst (Has f) e h)));
+        node = λ id h. ap (option_map (node_in id s)) (step.there id (λ e. never (subst (Has f) e h)));
+        entries = λ id h. ap (entries_of s) (step.there id (λ e. never (subst (Has f) e h)));
+        spot = λ id h. ap (option_map (spot_in s)) (step.there id (λ e. never (subst (Has f) e h)));
       }) reads
 
   same_mark : (id : InodeId) → Has (node_at state.tree) id → marks_of before id ≡ marks_of after id
-  same_mark id h = sym (ap mark_of (step.there id (λ e. not_live (subst (Has (node_at state.tree)) e h))))
+  same_mark id h = sym (step.marks id (λ e. not_live (subst (Has (node_at state.tree)) e h)))
 
   has_child : (p y : InodeId) → Child (node_at state.tree) p y → Has (node_at state.tree) y
   has_child p y c = record { at = child c.at c.name; node = c.node; is = c.is; named = c.named }
@@ -132,29 +136,7 @@ pub release-stands : (before after : Table) (state : State FileBlocks) (issued :
     → Stands before state issued → Stands after state issued
 release-stands before after state issued x step is copies dirs stands = stands_released before after state issued x step is copies dirs stands
 
--- ---- counts
-
-pub put_times : (name : List ℕ) (id x : InodeId) (es : Entries) → id_at name es ≡ None → times x (ids_of (with_entry name id es)) ≡ cond (same_inode id x) 1 0 + times x (ids_of es)
-put_times name id x [] free = refl
-put_times name id x (e ∷ es) free = elim (name_order name e.0) as (λ o. cond (is_eq o) (Some e.1) (id_at name es) ≡ None → times x (ids_of (by_order o ((name, id) ∷ e ∷ es) ((e.0, id) ∷ es) (e ∷ with_entry name id es))) ≡ cond (same_inode id x) 1 0 + times x (ids_of (e ∷ es))) [
-  | Less ↦ λ h. refl
-  | Equal ↦ λ h. absurd (none_some (sym h))
-  | Greater ↦ λ h. let rest = put_times name id x es h in omega (arith, rest)
-] free
-
-noted_ids : (name : List ℕ) (id : InodeId) (rs : List Past) → deleted_ids (change_last (note_added name id) rs) ≡ deleted_ids rs
-noted_ids name id [] = refl
-noted_ids name id (p ∷ []) = refl
-noted_ids name id (p ∷ q ∷ rs) = ap (λ (ids : List InodeId). ids_of p.diff.deleted ++ ids) (noted_ids name id (q ∷ rs))
-
-pub add-named : (dir : DirHistory) (name : List ℕ) (id x : InodeId) → id_at name dir.children ≡ None
-    → times x (named_in (Dir (added name id dir))) ≡ cond (same_inode id x) 1 0 + times x (named_in (Dir dir))
-add-named dir name id x free =
-    let here = put_times name id x dir.children free in
-    let same = ap (times x) (noted_ids name id dir.records) in
-    let a = times-append x (ids_of (with_entry name id dir.children)) (deleted_ids (change_last (note_added name id) dir.records)) in
-    let b = times-append x (ids_of dir.children) (deleted_ids dir.records) in
-    omega (arith, here, same, a, b)
+-- ---- sums over a table
 
 above_key : (k id : InodeId) (es : Table) (old : RowState) → below_all id_order k es ≡ true → row_at es id ≡ Some old → id_order k id ≡ Less
 above_key k id [] old below h = absurd (none_some h)
@@ -169,13 +151,14 @@ above_key k id (e ∷ es) old below h = elim (id_order id e.0) as (λ o. id_orde
     is_less Equal t = cc
     is_less Greater t = cc
 
-pub put-named : (table : Table) (id x : InodeId) (old new : RowState) → is_sorted id_order table ≡ true → row_at table id ≡ Some old → times_named x (put id_order id new table) + times x (named_in old.rows) ≡ times_named x table + times x (named_in new.rows)
-put-named [] id x old new sorted h = absurd (none_some h)
-put-named (e ∷ es) id x old new sorted h = elim (id_order id e.0) as (λ o. id_order id e.0 ≡ o → cond (is_eq o) (Some e.1) (row_at es id) ≡ Some old
-    → times_named x (by_order o ((id, new) ∷ e ∷ es) ((e.0, new) ∷ es) (e ∷ put id_order id new es)) + times x (named_in old.rows) ≡ times_named x (e ∷ es) + times x (named_in new.rows)) [
+-- another row in the place of one
+pub put-total : (weight : RowState → ℕ) (table : Table) (id : InodeId) (old new : RowState) → is_sorted id_order table ≡ true → row_at table id ≡ Some old → total weight (put id_order id new table) + weight old ≡ total weight table + weight new
+put-total weight [] id old new sorted h = absurd (none_some h)
+put-total weight (e ∷ es) id old new sorted h = elim (id_order id e.0) as (λ o. id_order id e.0 ≡ o → cond (is_eq o) (Some e.1) (row_at es id) ≡ Some old
+    → total weight (by_order o ((id, new) ∷ e ∷ es) ((e.0, new) ∷ es) (e ∷ put id_order id new es)) + weight old ≡ total weight (e ∷ es) + weight new) [
       | Less ↦ λ t g. let above = above_key e.0 id es old (first (below_all id_order e.0 es) _ sorted) g in absurd (both_less above t)
-      | Equal ↦ λ t g. let same = ap (λ (r : RowState). times x (named_in r.rows)) (same_some g) in omega (arith, same)
-      | Greater ↦ λ t g. let rest = put-named es id x old new (second (below_all id_order e.0 es) _ sorted) g in omega (arith, rest)
+      | Equal ↦ λ t g. let same = ap weight (same_some g) in omega (arith, same)
+      | Greater ↦ λ t g. let rest = put-total weight es id old new (second (below_all id_order e.0 es) _ sorted) g in omega (arith, rest)
     ] refl h
   where
     both_less : id_order e.0 id ≡ Less → id_order id e.0 ≡ Less → ⊥
@@ -183,3 +166,22 @@ put-named (e ∷ es) id x old new sorted h = elim (id_order id e.0) as (λ o. id
       where
         less_not : Greater ≡ Less → ⊥
         less_not q = cc
+
+pub put-named : (table : Table) (id x : InodeId) (old new : RowState) → is_sorted id_order table ≡ true → row_at table id ≡ Some old → times_named x (put id_order id new table) + times x (named_in old.rows) ≡ times_named x table + times x (named_in new.rows)
+put-named table id x old new sorted h = put-total (λ row. times x (named_in row.rows)) table id old new sorted h
+
+-- ---- one directory
+
+pub add-named : (dir : DirHistory) (name : List ℕ) (id x : InodeId) → IsSound dir → id_at name dir.children ≡ None
+    → times x (named_in (Dir (added name id dir))) ≡ one_where (same_id id x) + times x (named_in (Dir dir))
+add-named dir name id x sound free = (counts-added dir name id sound free).named x
+
+pub remove-named : (dir : DirHistory) (name : List ℕ) (id x : InodeId) → IsSound dir → id_at name dir.children ≡ Some id
+    → times x (named_in (Dir (removed name dir))) + cond (goes_to_deleted name id dir.records) 0 (one_where (same_id id x)) ≡ times x (named_in (Dir dir))
+remove-named dir name id x sound there =
+    subst (λ o. times x (named_in (Dir (removed_as name o dir))) + cond (goes_to_deleted name id dir.records) 0 (one_where (same_id id x)) ≡ times x (named_in (Dir dir))) (sym there)
+    ((counts-removed dir name id sound there).named x)
+
+pub merge-named : (dir : DirHistory) (i : ℕ) (x : InodeId) → IsSound dir → i < length dir.records
+    → times x (named_in (Dir (without_record i dir))) + times x (ids_of (dropped_at i dir.records)) ≡ times x (named_in (Dir dir))
+merge-named dir i x sound within = (counts-combined dir i sound within).named x

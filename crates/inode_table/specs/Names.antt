@@ -1,42 +1,35 @@
 -- How often rows are named, and what no list names any more.
-use Rattle.std.specs.Prelude.{◌≡◌, ◌≢◌, ℕ, Bool, IsTrue, ◌+◌, ◌<◌, if◌then◌else◌, List, [], ◌∷◌, ◌++◌, Some, None, true}
+use Rattle.std.specs.Prelude.{◌≡◌, ◌≢◌, ℕ, ◌+◌, ◌<◌, if◌then◌else◌, List, [], length, Some, None, true}
 use Rattle.std.specs.List.{Contains}
 use Rattle.std.specs.FinMap.Entries.{put, is_sorted}
 use Rattle.hs_types.specs.declared.ids.InodeId.{InodeId}
 use Rattle.hs_plain.specs.declared.state.Member.{Member}
 use Rattle.hs_plain.specs.declared.state.State.{State}
 use Rattle.hs_plain.specs.declared.state.FileBlocks.{FileBlocks}
-use Rattle.hs_plain.specs.Tree.{node_at, same_inode}
-use Rattle.dir_changes.specs.Entries.{id_at, holds, in_order}
+use Rattle.hs_plain.specs.Tree.{node_at}
+use Rattle.dir_changes.specs.Entries.{id_at}
 use Rattle.dir_changes.specs.Sound.{IsSound}
-use Rattle.dir_changes.specs.History.{DirHistory, Past, ids_of, added, removed, without_record, dropped_at}
+use Rattle.dir_changes.specs.History.{DirHistory, ids_of, added, removed, without_record, dropped_at}
+use Rattle.dir_changes.specs.Counts as counts
+use Rattle.dir_changes.specs.Counts.{times, one_where, same_id, goes_to_deleted}
 use Rattle.inode_table.specs.Reads.{Nodes, ReadsAs, IsNodes, Has}
-use Rattle.inode_table.specs.RowHistory.{RowHistory, RowState, File, Dir, Table, row_at, rows_at, shown, id_order}
+use Rattle.inode_table.specs.RowHistory.{RowHistory, RowState, File, Dir, Table, row_at, rows_at, marks_of, shown, id_order}
 use Rattle.inode_table.specs.Stands.{Stands, root_id}
-
--- the ids of deleted entries
-abbrev pub deleted_ids : List Past → List InodeId
-deleted_ids [] = []
-deleted_ids (past ∷ records) = ids_of past.diff.deleted ++ deleted_ids records
+use Rattle.inode_table.specs.Totals.{total}
 
 -- the ids that a row's lists name: the current list, and the deleted lists of its records
 abbrev pub named_in : RowHistory → List InodeId
 named_in (File file) = []
-named_in (Dir dir) = ids_of dir.children ++ deleted_ids dir.records
-
--- how often an id stands in a list
-abbrev pub times : InodeId → List InodeId → ℕ
-times id [] = 0
-times id (other ∷ ids) = (if same_inode other id then 1 else 0) + times id ids
+named_in (Dir dir) = counts.named_in dir
 
 -- how often the rows of a table name an id
 abbrev pub times_named : InodeId → Table → ℕ
-times_named id [] = 0
-times_named id (row ∷ table) = times id (named_in row.1.rows) + times_named id table
+times_named id table = total (λ row. times id (named_in row.rows)) table
 
--- one row less
+-- one row less; how often the others are named may change
 pub record Releases (before after : Table) (x : InodeId) : Type 0 where
-  pub there : (id : InodeId) → id ≢ x → row_at after id ≡ row_at before id
+  pub there : (id : InodeId) → id ≢ x → rows_at after id ≡ rows_at before id
+  pub marks : (id : InodeId) → id ≢ x → marks_of after id ≡ marks_of before id
   pub not_root : x ≢ root_id
   pub not_named : (id : InodeId) (rows : RowHistory) → rows_at before id ≡ Some rows → times x (named_in rows) ≡ 0
 
@@ -55,30 +48,19 @@ abbrev pub PutNamedLaw : Type 0
 PutNamedLaw = (table : Table) (id x : InodeId) (old new : RowState) → is_sorted id_order table ≡ true → row_at table id ≡ Some old
     → times_named x (put id_order id new table) + times x (named_in old.rows) ≡ times_named x table + times x (named_in new.rows)
 
--- one entry more names its id once more
-abbrev pub AddNamedLaw : Type 0
-AddNamedLaw = (dir : DirHistory) (name : List ℕ) (id x : InodeId) → id_at name dir.children ≡ None
-    → times x (named_in (Dir (added name id dir))) ≡ (if same_inode id x then 1 else 0) + times x (named_in (Dir dir))
-
 -- ---- counts of one directory
 
--- each record's lists are in order
-abbrev pub DiffsInOrder : List Past → Type 0
-DiffsInOrder [] = Unit {0}
-DiffsInOrder (past ∷ records) = IsTrue (in_order past.diff.created) × IsTrue (in_order past.diff.deleted) × DiffsInOrder records
+-- one entry more names its id once more
+abbrev pub AddNamedLaw : Type 0
+AddNamedLaw = (dir : DirHistory) (name : List ℕ) (id x : InodeId) → IsSound dir → id_at name dir.children ≡ None
+    → times x (named_in (Dir (added name id dir))) ≡ one_where (same_id id x) + times x (named_in (Dir dir))
 
--- whether a removed entry goes to no list: where there is no record, or the last one has created it
-abbrev pub is_lost : List ℕ → InodeId → List Past → Bool
-is_lost name id [] = true
-is_lost name id (past ∷ []) = holds past.diff.created (name, id)
-is_lost name id (past ∷ next ∷ records) = is_lost name id (next ∷ records)
-
--- an entry less: its id is named once less where the entry goes to no list, and else as often
+-- an entry less: its id is named as often where the entry goes to a deleted list, and else once less
 abbrev pub RemoveNamedLaw : Type 0
 RemoveNamedLaw = (dir : DirHistory) (name : List ℕ) (id x : InodeId) → IsSound dir → id_at name dir.children ≡ Some id
-    → times x (named_in (Dir (removed name dir))) + (if is_lost name id dir.records then (if same_inode id x then 1 else 0) else 0) ≡ times x (named_in (Dir dir))
+    → times x (named_in (Dir (removed name dir))) + (if goes_to_deleted name id dir.records then 0 else one_where (same_id id x)) ≡ times x (named_in (Dir dir))
 
 -- a record merged away: the dropped ids are named once less each
 abbrev pub MergeNamedLaw : Type 0
-MergeNamedLaw = (dir : DirHistory) (i : ℕ) (x : InodeId) → IsSound dir → DiffsInOrder dir.records
+MergeNamedLaw = (dir : DirHistory) (i : ℕ) (x : InodeId) → IsSound dir → i < length dir.records
     → times x (named_in (Dir (without_record i dir))) + times x (ids_of (dropped_at i dir.records)) ≡ times x (named_in (Dir dir))

@@ -34,7 +34,7 @@ history_of (kinds.File file) = File file.history
 history_of (kinds.Dir dir) = Dir dir.history
 
 abbrev pub state_of : Row → RowState
-state_of row = record { since = row.since.0; carry = row.carry.0; rows = history_of row.rows }
+state_of row = record { since = row.since.0; carry = row.carry.0; names = row.names; rows = history_of row.rows }
 
 -- the plain table of these rows
 abbrev pub table_of : List (InodeId × Row) → Table
@@ -59,3 +59,7 @@ last_in snaps dir = number_or (last_id (snaps_in snaps dir))
 -- the row with these marks
 abbrev pub with_marks : SnapId → SnapId → Row → Row
 with_marks since carry row = record row { since = since; carry = carry }
+
+-- the row named so often
+abbrev pub with_names : (ℕ → ℕ) → Row → Row
+with_names names row = record row { names = names row.names }

@@ -26,9 +26,11 @@ pub data RowHistory : Type 0 where
   File : FileHistory → RowHistory
   Dir : DirHistory → RowHistory
 
+-- a row: its marks, how often lists name it, and its states
 pub record RowState : Type 0 where
   pub since : ℕ
   pub carry : ℕ
+  pub names : ℕ
   pub rows : RowHistory
 
 -- ---- what a row shows at a snapshot; at 0 its current state

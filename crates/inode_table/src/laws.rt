@@ -10,6 +10,9 @@ ghost use Rattle.inode_table.specs.Stands.{RenameLaw};
 ghost use Rattle.inode_table.specs.Deeds.{TouchStandsLaw, DeleteStandsLaw, MakeStandsLaw};
 ghost use Rattle.inode_table.specs.Snaps.{SnapStandsLaw, DropStandsLaw};
 ghost use Rattle.inode_table.specs.Names.{ReleaseLaw, ReadNamedLaw, PutNamedLaw, AddNamedLaw, RemoveNamedLaw, MergeNamedLaw};
+ghost use Rattle.inode_table.specs.Merged.{MergedLaw};
+ghost use Rattle.inode_table.specs.Released.{BlocksOnceLaw, LetGoLaw, ReleasedStandsLaw};
+ghost use Rattle.inode_table.specs.Recounts.{ChangedNamedLaw, ChangedWeightLaw};
 ghost use Rattle.inode_table.specs.Start.{StartStandsLaw};
 ghost use Rattle.inode_table.specs.Records.{LoseLaw, StartLaw, MergeLaw};
 ghost use Rattle.inode_table.specs.Edited.{RemoveRowLaw};
@@ -149,6 +152,21 @@ pub fn release()
     ensures { ReleaseLaw }
 {}
 
+/// A row that no list names goes, and what its lists name is named once less.
+pub fn let_go()
+    ensures { LetGoLaw }
+{}
+
+/// Rows that go in turn leave a table that stands for the same state.
+pub fn released_stands()
+    ensures { ReleasedStandsLaw }
+{}
+
+/// A file that goes hands out each block that a state names, once, and no other.
+pub fn blocks_once()
+    ensures { BlocksOnceLaw }
+{}
+
 /// The root alone stands for the first state.
 pub fn start_stands()
     ensures { StartStandsLaw }
@@ -192,6 +210,11 @@ pub fn start_record()
 /// A record without a live id in its interval may be merged away.
 pub fn merge()
     ensures { MergeLaw }
+{}
+
+/// What a merge leaves: one record of one row goes, and all that is read outside its interval stays.
+pub fn merged()
+    ensures { MergedLaw }
 {}
 
 /// What the removal of an entry leaves of a directory's history.
@@ -247,4 +270,14 @@ pub fn marks_told()
 /// The last live id of a directory is the plain state's.
 pub fn last_told()
     ensures { LastLaw }
+{}
+
+/// What a change of a row does to how often rows are named.
+pub fn changed_named()
+    ensures { ChangedNamedLaw }
+{}
+
+/// And to what the table weighs.
+pub fn changed_weight()
+    ensures { ChangedWeightLaw }
 {}

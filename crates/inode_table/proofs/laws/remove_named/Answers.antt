@@ -1,4 +1,4 @@
-use Rattle.inode_table.proofs.Counting.{remove-named}
+use Rattle.inode_table.proofs.Naming.{remove-named}
 use Rattle.inode_table.proofs.laws.remove_named.Goals as goal
 
 pub returns : goal.returns

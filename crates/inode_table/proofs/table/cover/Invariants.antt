@@ -4,4 +4,4 @@ use Rattle.inode_table.specs.Numbered.{marks_in, last_in}
 use Rattle.inode_table.proofs.table.cover.Given as goal
 
 abbrev pub invariant-loop-id : goal.invariant-loop-id
-invariant-loop-id l = cover_from (last_in l.snaps) (marks_in l.table) l.number (drop l.id-index l.chain) ≡ cover (last_in l.snaps) (marks_in l.table) l.chain
+invariant-loop-id l = cover_from (last_in l.snaps) (marks_in l.table.rows) l.number (drop l.id-index l.chain) ≡ cover (last_in l.snaps) (marks_in l.table.rows) l.chain
