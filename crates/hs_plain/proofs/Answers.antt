@@ -35,7 +35,8 @@ use Rattle.hs_plain.specs.Modifying.{spares_children, would_nest, live_path, mkd
 use Rattle.hs_plain.specs.Snapshotting.{directory_at, allow_at, disallow_at, snap_at, snap_del_at, snap_ren_at}
 use Rattle.hs_plain.specs.Reading.{is_deleted, is_gone, is_foreign, began_at, has_moved, list_reply, list_next_reply, node_stat, list_stat, stat_at, stat_reply, file_there, file_at, found_file, read_reply, next_file, next_reply, directory_there, live_directory, snapshottable_at, snaps_reply, point_id, report_reply, report_next_reply}
 use Rattle.hs_plain.specs.Answer.{asked, reply_to, replied, is_plain_reply, is_machine, origin_of_refusal}
-use Rattle.hs_plain.specs.Answers.{AnswersAreItsOwn, RefusalsAreItsOwn, WholeAnswersAreItsOwn, WholeRefusalsAreItsOwn}
+use Rattle.hs_plain.specs.Answers.{AnswersAreItsOwn}
+use Rattle.hs_plain.specs.inside.Answers.{RefusalsAreItsOwn, WholeAnswersAreItsOwn, WholeRefusalsAreItsOwn}
 
 -- whether a refusal is the plain machine's
 abbrev is_own : Refusal → Bool

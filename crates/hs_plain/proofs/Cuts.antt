@@ -15,7 +15,7 @@ use Rattle.hs_types.specs.declared.reply.Item.{Item}
 use Rattle.hs_types.specs.declared.reply.Reply.{Reply}
 use Rattle.hs_plain.specs.Pages.{is_behind, items_behind, last_name, name_of, next_cursor}
 use Rattle.hs_plain.specs.Joined.{items_shown, list_cursor, lines_shown, report_cursor, bytes_shown, read_cursor}
-use Rattle.hs_plain.specs.Cuts.{NamesRise, IsPageOf, IsLinesPage, IsBytesPage, CutByName, CutByIndex, CutByOffset}
+use Rattle.hs_plain.specs.inside.Cuts.{NamesRise, IsPageOf, IsLinesPage, IsBytesPage, CutByName, CutByIndex, CutByOffset}
 use Rattle.hs_plain.proofs.Joined.{Shows, joined, whole_joined, shows_cut}
 
 lesser : (o : Ordering) → is_lt o ≡ true → o ≡ Less

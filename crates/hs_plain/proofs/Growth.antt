@@ -8,7 +8,8 @@ use Rattle.std.specs.declared.cmp.Ordering.TheVariants.{Less, Equal, Greater}
 use Rattle.std.specs.FinMap.Entries.{put, by_order}
 use Rattle.hs_types.specs.Names.{Names}
 use Rattle.hs_plain.specs.declared.state.Node.{Node}
-use Rattle.hs_plain.specs.Tree.{Tree, path_cmp, is_after, is_place_at}
+use Rattle.hs_plain.specs.Tree.{Tree, path_cmp}
+use Rattle.hs_plain.specs.inside.Ranks.{is_after, is_place_at}
 
 module _ {K X : Type 0} (R : K → K → Ordering) (k : K) (v : X) where
   abbrev behind : K × X → Bool

@@ -10,7 +10,8 @@ use Rattle.std.specs.FinMap.Entries.{is_sorted, below_all}
 use Rattle.std.proofs.lemmas.List.Sums.{prefix_len_is}
 use Rattle.hs_types.specs.Names.{Names}
 use Rattle.hs_plain.specs.declared.state.Node.{Node}
-use Rattle.hs_plain.specs.Tree.{Tree, path_cmp, is_after}
+use Rattle.hs_plain.specs.Tree.{Tree, path_cmp}
+use Rattle.hs_plain.specs.inside.Ranks.{is_after}
 use Rattle.hs_plain.proofs.ValidTrees.{paths_total, first, second}
 
 -- a partition point counts what stands in front of the first that fails the test

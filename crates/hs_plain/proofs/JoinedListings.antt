@@ -26,7 +26,7 @@ use Rattle.hs_plain.specs.Answer.{answer, reply_to, blanked, claimed, is_plain_r
 use Rattle.hs_plain.specs.Replay.{plain_after, is_proper}
 use Rattle.hs_plain.specs.Legal.{Said}
 use Rattle.hs_plain.specs.Joined.{known_state, items_shown, list_cursor, is_page, gone_or_no_memory}
-use Rattle.hs_plain.specs.Cuts.{NamesRise}
+use Rattle.hs_plain.specs.inside.Cuts.{NamesRise}
 use Rattle.hs_plain.specs.JoinedPages.{page_size, listed_at, GoesOnList, ListingsJoin}
 use Rattle.hs_plain.proofs.Facts.{okay, ok_of}
 use Rattle.hs_plain.proofs.Joined.{Shows, joined}

@@ -36,6 +36,7 @@ pub mod ValidHeld
 pub mod ValidLists
 pub mod ValidMembers
 pub mod ValidMoves
+pub mod ValidNames
 pub mod ValidNodes
 pub mod ValidPlaces
 pub mod ValidRepaths

@@ -14,7 +14,8 @@ use Rattle.hs_types.specs.declared.reply.LineKind.TheVariants.{Deleted, Renamed,
 use Rattle.hs_plain.specs.declared.state.Node.{Node}
 use Rattle.hs_plain.specs.Tree.{Tree, path_cmp, node_at, parent_of, place_of}
 use Rattle.hs_plain.specs.Report.{node_id, id_above, last_of, same_id, same_place, parent_stays, is_changed, rank_of, line_of, line_if, lines_by, lines_from, place_above, created_in, created_by, created, line_before, with_lines, report}
-use Rattle.hs_plain.specs.Ordered.{AreOrdered, AreOfOneRoot, ReportIsOrdered}
+use Rattle.hs_plain.specs.Ordered.{AreOrdered}
+use Rattle.hs_plain.specs.inside.Ordered.{AreOfOneRoot, ReportIsOrdered}
 use Rattle.hs_plain.proofs.Facts.{some_of, none_some}
 use Rattle.hs_plain.proofs.ValidTrees.{first, second}
 use Rattle.hs_plain.proofs.ValidLists.{In}

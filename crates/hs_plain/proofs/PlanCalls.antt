@@ -5,7 +5,7 @@ use Rattle.std.specs.List.{flat_map}
 use Rattle.std.specs.Option.{unwrap_or}
 use Rattle.std.proofs.lemmas.Bool.Decides.{nat_tests}
 use Rattle.hs_plain.specs.Plan.{numbered_so, IsMerging, all_copy_calls}
-use Rattle.hs_plain.specs.PlanCalls.{InTurnAreMerged}
+use Rattle.hs_plain.specs.inside.PlanCalls.{InTurnAreMerged}
 
 same_number : (k n : ℕ) → k ≡ n → (k == n) ≡ true
 same_number k n e = grind (arith, nat_tests)

@@ -9,7 +9,7 @@ use Rattle.std.specs.Prelude.{OnOk, OnErr, IfErr}
 use Rattle.hs_plain.specs.declared.resolve.AskFault.{AskFault}
 use Rattle.hs_plain.specs.declared.resolve.AskFault.TheVariants as faults
 use Rattle.hs_plain.specs.Asked.{Asked}
-use Rattle.hs_plain.specs.Faults.{IsFaultOf, is_answered}
+use Rattle.hs_plain.specs.inside.Faults.{IsFaultOf, is_answered}
 use Rattle.hs_plain.specs.Files.{Files}
 use Rattle.hs_plain.specs.Answer.{asked, replied}
 use Rattle.hs_plain.specs.Modifying.{mkdir_at, create_at, delete_at, rename_at, set_mode_at, append_at}

@@ -20,7 +20,7 @@ use Rattle.hs_plain.specs.declared.state.State.{State}
 use Rattle.hs_plain.specs.Tree.{Tree, path_cmp, only_name, child_item, named_item, listing, is_dir, place_of}
 use Rattle.hs_plain.specs.State.{member_with, items_of, items_at}
 use Rattle.hs_plain.specs.Pages.{is_behind}
-use Rattle.hs_plain.specs.Cuts.{NamesRise}
+use Rattle.hs_plain.specs.inside.Cuts.{NamesRise}
 use Rattle.hs_plain.proofs.Facts.{some_of, none_some, okay, ok_of, refused, err_ok}
 use Rattle.hs_plain.proofs.ValidTrees.{first, second}
 use Rattle.hs_plain.proofs.Paged.{IsGiven, given, with_all}

@@ -11,7 +11,8 @@ use Rattle.hs_plain.specs.Modifying.{mkdir_at, create_at, append_at, delete_at, 
 use Rattle.hs_plain.specs.Snapshotting.{allow_at, disallow_at, snap_at, snap_del_at, snap_ren_at}
 use Rattle.hs_plain.specs.Change.{change, changed_if, takes_effect, after, made_dir, made_file, appended, removed, renamed, with_mode, allowed, disallowed, snapped, unsnapped, resnapped}
 use Rattle.hs_plain.specs.Replay.{replay_from, replay}
-use Rattle.hs_plain.specs.Ticks.{TickCounts, TickRises}
+use Rattle.hs_plain.specs.Ticks.{TickCounts}
+use Rattle.hs_plain.specs.inside.Ticks.{TickRises}
 use Rattle.hs_plain.proofs.ValidTrees.{if_asked-keeps}
 
 module _ {B : Type 0} (files : Files B) where

@@ -12,7 +12,7 @@ use Rattle.hs_types.specs.declared.ids.InodeId.{InodeId}
 use Rattle.hs_plain.specs.declared.state.Node.{Node}
 use Rattle.hs_plain.specs.Tree.{Tree, path_cmp, node_at, same_path, is_under, same_inode, place_of}
 use Rattle.hs_plain.specs.Change.{restamp, stamped, remode, moded, without, repath, moved}
-use Rattle.hs_plain.specs.Places.{IsOutside, IsFree, IsOnlyAt, unless_place, stamped_node, moded_node}
+use Rattle.hs_plain.specs.inside.Places.{IsOutside, IsFree, IsOnlyAt, unless_place, stamped_node, moded_node}
 use Rattle.hs_plain.proofs.ValidTrees.{restamp-kept, remode-kept, sorted-put, sorted-without, sorted-moved}
 use Rattle.hs_plain.proofs.ValidShapes.{none_some, same_some, true_false, same_so, by_same, by_under, under_test}
 pub use Rattle.hs_plain.proofs.ValidChanges.{put_here, put_there, without-below, without-elsewhere, moved_path, moved_under, moved_other}

@@ -18,9 +18,10 @@ use Rattle.hs_plain.specs.Tree.{Tree, node_at, passes, walks_from, walks_above, 
 use Rattle.hs_plain.specs.State.{is_snapshottable, snapshots_of, has_snapshots, has_snapshot_named, snapshot_named, is_named, holds_snapshots, meets_snapshottable}
 use Rattle.hs_plain.specs.Modifying.{live_path, mkdir_at, create_at, delete_at, rename_at, may_move, would_nest, takes_place_of, spares_children, file_in, append_at}
 use Rattle.hs_plain.specs.Snapshotting.{directory_at, allow_at, disallow_at, snap_at, snap_ren_at}
-use Rattle.hs_plain.specs.Valid.{is_dir_node}
+use Rattle.hs_plain.specs.Valid.{is_dir_node, are_names}
 use Rattle.hs_plain.proofs.ValidTrees.{first}
 use Rattle.hs_plain.proofs.ValidShapes.{under_test}
+use Rattle.hs_plain.proofs.ValidNames.{live-named}
 use Rattle.hs_plain.proofs.ValidLists.{In}
 use Rattle.hs_plain.proofs.ValidMembers.{inode_so}
 
@@ -81,8 +82,9 @@ module _ {B : Type 0} where
   found_some None n h = absurd (err_ok h)
   found_some (Some m) n h = ap (λ x. Some x) (same_ok h)
 
-  -- a place for a new node: a walk leads there, and no directory is there
+  -- a place for a new node: its path is of names, a walk leads there, and no directory is there
   pub record HasRoom (tree : Tree B) (path : Names) : Type 0 where
+    pub named : are_names path ≡ true
     pub reached : (u : Unit {0}) × (walks_above tree path ≡ Ok u)
     pub free : is_dir_node (node_at tree path) ≡ false
 
@@ -93,6 +95,7 @@ module _ {B : Type 0} where
       let c = ok_then (refuse_if (is_some (node_at state.tree a.0)) _) _ path b.2 in
       let same : a.0 ≡ path = same_ok c.2 in
       record {
+        named = ap are_names (sym same) ∙ live-named text a.0 a.1;
         reached = (b.0, ap (walks_above state.tree) (sym same) ∙ b.1);
         free = ap (λ (p : Names). is_dir_node (node_at state.tree p)) (sym same) ∙ ap is_dir_node (is_none _ (not_refused _ _ c.0 c.1));
       }
@@ -104,6 +107,7 @@ module _ {B : Type 0} where
       let c = ok_then (takes_place_of over (node_at state.tree a.0)) _ path b.2 in
       let same : a.0 ≡ path = same_ok c.2 in
       record {
+        named = ap are_names (sym same) ∙ live-named text a.0 a.1;
         reached = (b.0, ap (walks_above state.tree) (sym same) ∙ b.1);
         free = ap (λ (p : Names). is_dir_node (node_at state.tree p)) (sym same) ∙ free_place over _ c.0 c.1;
       }
@@ -147,8 +151,9 @@ module _ {B : Type 0} where
         body = ap (λ (x : Names × Node B × B). x.1.body) (sym same) ∙ is_file b.0.body c.0 c.1 ∙ ap (λ (x : Names × Node B × B). File x.2) same;
       }
 
-  -- a move: a node goes to a free place that isn't below it
+  -- a move: a node goes to a free place that isn't below it, with a path of names
   pub record MayMove (tree : Tree B) (old new : Names) : Type 0 where
+    pub named : are_names new ≡ true
     pub reached : (u : Unit {0}) × (walks_above tree new ≡ Ok u)
     pub there : (n : Node B) × (node_at tree old ≡ Some n)
     pub free : node_at tree new ≡ None
@@ -160,8 +165,8 @@ module _ {B : Type 0} where
     pub moves : MayMove state.tree old new
     pub unnested : would_nest state old new ≡ false
 
-  move_allowed : (state : State B) (old new : Names) (u : Unit {0}) → may_move state old new ≡ Ok u → MayMoveIn state old new
-  move_allowed state old new u h =
+  move_allowed : (state : State B) (old new : Names) (u : Unit {0}) → are_names new ≡ true → may_move state old new ≡ Ok u → MayMoveIn state old new
+  move_allowed state old new u named h =
       let a = ok_then (both (walk state.tree old) (walks_above state.tree new)) _ u h in
       let ends = both_ok (walk state.tree old) (walks_above state.tree new) a.0 a.1 in
       let b = ok_then (refuse_if (is_some (node_at state.tree new)) _) _ u a.2 in
@@ -171,6 +176,7 @@ module _ {B : Type 0} where
       let node = ok_then (walks_above state.tree old) _ a.0.0 ends.0 in
       record {
         moves = record {
+          named = named;
           reached = (a.0.1, ends.1);
           there = (a.0.0, found_some _ a.0.0 node.2);
           free = is_none _ (not_refused _ _ b.0 b.1);
@@ -185,7 +191,8 @@ module _ {B : Type 0} where
       let a = ok_then (both (live_path old) (live_path new)) _ paths h in
       let b = ok_then (may_move state a.0.0 a.0.1) _ paths a.2 in
       let same : a.0 ≡ paths = same_ok b.2 in
-      move_allowed state paths.0 paths.1 b.0 (ap (λ (p : Names × Names). may_move state p.0 p.1) (sym same) ∙ b.1)
+      let named : are_names a.0.1 ≡ true = live-named new a.0.1 (both_ok (live_path old) (live_path new) a.0 a.1).1 in
+      move_allowed state paths.0 paths.1 b.0 (ap (λ (p : Names × Names). are_names p.1) (sym same) ∙ named) (ap (λ (p : Names × Names). may_move state p.0 p.1) (sym same) ∙ b.1)
 
   -- the new place of a move is neither the old one nor below it
   pub lands_outside : (tree : Tree B) (old new : Names) → MayMove tree old new → (rest : Names) → new ≢ old ++ rest
@@ -240,8 +247,9 @@ module _ {B : Type 0} where
       let same : a.0.1.id ≡ id = same_ok c.2 in
       ap (has_snapshots state) (sym same) ∙ not_refused _ _ b.0 b.1
 
-  -- a directory of which a snapshot may be made
+  -- a directory of which a snapshot of this name may be made
   pub record MaySnap (state : State B) (name : List ℕ) (path : Names) (node : Node B) : Type 0 where
+    pub named : is_name name ≡ true
     pub is_there : IsDirAt state.tree path node
     pub allowed : is_snapshottable state node.id ≡ true
     pub free : has_snapshot_named state node.id name ≡ false
@@ -256,6 +264,7 @@ module _ {B : Type 0} where
       let f = ok_then (refuse_if (nat_le snapshot_limit (snapshots_of state.members a.0.1.id)) _) _ at d.2 in
       let same : a.0 ≡ at = same_ok f.2 in
       subst (λ (x : Names × Node B). MaySnap state name x.0 x.1) same (record {
+        named = not_not _ (not_refused _ _ b.0 b.1);
         is_there = dir_there state text a.0 a.1;
         allowed = not_not _ (not_refused _ _ c.0 c.1);
         free = not_refused _ _ d.0 d.1;
@@ -267,6 +276,7 @@ module _ {B : Type 0} where
 
   -- a snapshot that may get another name: it is a directory's that has none of this name
   pub record MayRename (state : State B) (name : List ℕ) (id : SnapId) : Type 0 where
+    pub named : is_name name ≡ true
     pub member : Member B
     pub is_there : In state.members member
     pub same : member.snapshot ≡ id
@@ -289,4 +299,4 @@ module _ {B : Type 0} where
       let c = ok_then (refuse_if (not (is_snapshottable state a.0.1.id)) _) _ id b.2 in
       let d = ok_then (refuse_if (has_snapshot_named state a.0.1.id new) _) _ id c.2 in
       let w = found_named state.members a.0.1.id old id d.2 in
-      record { member = w.0; is_there = w.1; same = w.3; free = ap (λ dir. has_snapshot_named state dir new) w.2 ∙ not_refused _ _ d.0 d.1 }
+      record { named = not_not _ (not_refused _ _ b.0 b.1); member = w.0; is_there = w.1; same = w.3; free = ap (λ dir. has_snapshot_named state dir new) w.2 ∙ not_refused _ _ d.0 d.1 }

@@ -13,7 +13,7 @@ use Rattle.hs_plain.specs.declared.state.State.{State}
 use Rattle.hs_plain.specs.Tree.{Tree, path_cmp, node_at, parent_of, is_dir, is_above, is_under, same_inode, place_of, walks_above}
 use Rattle.hs_plain.specs.State.{is_snapshottable, has_snapshots, holds_snapshottable, is_in_snapshottable}
 use Rattle.hs_plain.specs.Change.{stamped, without, moved, still_in, with_node, removed, renamed}
-use Rattle.hs_plain.specs.Places.{IsFree}
+use Rattle.hs_plain.specs.inside.Places.{IsFree}
 use Rattle.hs_plain.specs.Valid.{all_differ, IsValid}
 use Rattle.hs_plain.proofs.ValidTrees.{both, sorted-with_node, sorted-without, sorted-removed, sorted-renamed}
 use Rattle.hs_plain.proofs.ValidShapes.{Shape, IsTree, is_dir_shape, true_false, none_some, same_some, by_same, by_under, by_last, there_above, under_test, tree-made, tree-removed}
@@ -46,6 +46,7 @@ module _ {B : Type 0} where
       tree-made (shapes state.tree) state.next_inode is (shapes (with_node state p node).tree) above name (is_dir node)
       (dir_shape (node_at state.tree above) ∙ walked state.tree [] above name room.reached.0 room.reached.1)
       (dir_shape (node_at state.tree p) ∙ room.free)
+      room.named
       (with_node-here state p node ∙ ap (λ n. Some (n, is_dir node)) id)
       (with_node-there state p node))
       room
@@ -76,7 +77,7 @@ module _ {B : Type 0} where
     tree-moved_to = by_last (λ to. new ≡ to → IsTree (shapes (moved tree old new)) next) new
         (λ e. absurd (none_some (ap (option_map shape) (sym may.free ∙ ap (node_at tree) e) ∙ is.root)))
         (λ above name e. let reached = subst (λ to. (u : Unit {0}) × (walks_above tree to ≡ Ok u)) e may.reached in
-        tree-moved (shapes tree) next is old new above name e (dir_shape (node_at tree above) ∙ walked tree [] above name reached.0 reached.1) may.below_root (lands_outside tree old new may)
+        tree-moved (shapes tree) next is old new above name e (dir_shape (node_at tree above) ∙ walked tree [] above name reached.0 reached.1) may.below_root (lands_outside tree old new may) may.named
         (moved_path old new) (moved_under old new) (moved_other old new) (shapes (moved tree old new)) moved_from moved_onto)
         refl
 

@@ -10,7 +10,7 @@ use Rattle.hs_types.specs.Names.{Names}
 use Rattle.hs_plain.specs.declared.state.Node.{Node}
 use Rattle.hs_plain.specs.Tree.{Tree, path_cmp, node_at, same_path}
 use Rattle.hs_plain.specs.Change.{restamp, stamped, remode, moded, without, repath, at_new}
-use Rattle.hs_plain.specs.Places.{IsOutside}
+use Rattle.hs_plain.specs.inside.Places.{IsOutside}
 use Rattle.hs_plain.proofs.ValidTrees.{paths_total, paths_exact, restamp-kept, remode-kept}
 use Rattle.hs_plain.proofs.ValidShapes.{same_so, same-itself, other-test, under_test, under_so}
 use Rattle.hs_plain.proofs.ValidNodes.{shape, shapes}

@@ -8,8 +8,8 @@ use Rattle.std.proofs.lemmas.Bool.Decides.{Decides-ltb}
 use Rattle.hs_types.specs.Names.{Names}
 use Rattle.hs_types.specs.declared.ids.InodeId.{InodeId}
 use Rattle.hs_plain.specs.declared.state.Node.{Node}
-use Rattle.hs_plain.specs.Tree.{Tree, path_cmp, node_at, is_dir, is_above, same_inode, place_of}
-use Rattle.hs_plain.specs.Valid.{is_dir_place, path_at, has_nested}
+use Rattle.hs_plain.specs.Tree.{Tree, path_cmp, node_at, is_dir, is_above, same_inode, place_of, path_at}
+use Rattle.hs_plain.specs.Valid.{is_dir_place, has_nested}
 use Rattle.hs_plain.proofs.ValidTrees.{both, first, second}
 use Rattle.hs_plain.proofs.ValidShapes.{Shape, Shapes, IsTree, same_some, under_so, under_test, true_false}
 use Rattle.hs_plain.proofs.ValidNodes.{shape, shapes, shape_some}

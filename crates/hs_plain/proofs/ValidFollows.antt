@@ -11,7 +11,7 @@ use Rattle.hs_plain.specs.declared.state.State.{State}
 use Rattle.hs_plain.specs.Tree.{Tree, path_cmp, node_at, is_dir, same_inode}
 use Rattle.hs_plain.specs.Valid.{all_nodes, all_differ, IsValid}
 use Rattle.hs_plain.proofs.ValidShapes.{Shape, IsTree, same_some}
-use Rattle.hs_plain.proofs.ValidNodes.{shape, shapes, shape_some, tree_so, root-from, parents-from, once-from}
+use Rattle.hs_plain.proofs.ValidNodes.{shape, shapes, shape_some, tree_so, root-from, parents-from, named-from, once-from}
 use Rattle.hs_plain.proofs.ValidLists.{all_so, all_from}
 use Rattle.hs_plain.proofs.ValidHeld.{Stands, Held, held-in, kinds_so, kinds-from, below_so, below-from}
 use Rattle.hs_plain.proofs.ValidDirs.{AreDirs, dirs_so, dirs-all, dirs-apart}
@@ -20,7 +20,7 @@ module _ {B : Type 0} where
   -- ---- the live tree of a valid state
 
   pub live_tree : (state : State B) → IsValid state → IsTree (shapes state.tree) state.next_inode
-  live_tree state valid = tree_so state.tree state.next_inode valid.root valid.parents valid.each_once (λ q n at. below_so state valid n (inl (q, at)))
+  live_tree state valid = tree_so state.tree state.next_inode valid.root valid.parents valid.names valid.each_once (λ q n at. below_so state valid n (inl (q, at)))
 
   pub live_dirs : (state : State B) → IsValid state → AreDirs (shapes state.tree) state.snapshottable
   live_dirs state valid = dirs_so state.tree state.next_inode valid.sorted (live_tree state valid) state.snapshottable valid.snapshottable_dirs valid.not_nested
@@ -89,6 +89,7 @@ module _ {B : Type 0} where
       sorted = follows.sorted;
       root = root-from tree next follows.is_tree;
       parents = parents-from tree follows.sorted follows.is_tree.above;
+      names = named-from tree follows.sorted follows.is_tree.named;
       each_once = once-from tree follows.sorted follows.is_tree.once;
       one_kind = kinds-from (all_nodes next_state) (λ a b ina inb. kinds a b (held-in next_state follows.sorted valid.copies_sorted a ina) (held-in next_state follows.sorted valid.copies_sorted b inb));
       ids_below = below-from next (all_nodes next_state) (λ n at. below n (held-in next_state follows.sorted valid.copies_sorted n at));
@@ -99,6 +100,7 @@ module _ {B : Type 0} where
       member_roots = valid.member_roots;
       copies_sorted = valid.copies_sorted;
       copies_parents = valid.copies_parents;
+      copies_names = valid.copies_names;
       copies_each_once = valid.copies_each_once;
       copies_root_on_top = valid.copies_root_on_top;
       snapshots_rise = valid.snapshots_rise;
@@ -108,6 +110,7 @@ module _ {B : Type 0} where
       ticks_within = all_from (λ member. nat_le member.tick tick) state.members (λ m at.
           let le : m.tick ≤ state.tick = leb-true m.tick state.tick (all_so (λ member. nat_le member.tick state.tick) state.members valid.ticks_within m at) in
           le-leb m.tick tick (omega arith));
+      member_names = valid.member_names;
       different_names = valid.different_names;
       at_most = valid.at_most;
     }

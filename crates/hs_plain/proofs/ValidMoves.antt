@@ -3,11 +3,13 @@ use Rattle.std.proofs.Common.{◌≡◌, ℕ, true, List, [], ◌∷◌, ◌++�
 use Rattle.std.specs.Prelude.{◌≢◌}
 use Rattle.hs_types.specs.Names.{Names}
 use Rattle.hs_plain.specs.Tree.{parent_of}
+use Rattle.hs_plain.specs.Valid.{are_names}
+use Rattle.hs_plain.proofs.ValidNames.{names-joined, names-rest}
 use Rattle.hs_plain.proofs.ValidShapes.{Shape, Shapes, IsTree, is_dir_shape, some_dir, by_under, by_last, parent_of-last, not_more}
 
 -- each path at or below `old` becomes one at or below `new`, in a directory that isn't itself moved
 module _ (f : Shapes) (next : ℕ) (is : IsTree f next) (old new above : Names) (name : List ℕ) (lands : new ≡ above ++ name ∷ []) (parent : is_dir_shape (f above) ≡ true)
-    (below_root : old ≢ []) (outside : (rest : Names) → new ≢ old ++ rest)
+    (below_root : old ≢ []) (outside : (rest : Names) → new ≢ old ++ rest) (named : are_names new ≡ true)
     (to : Names → Names) (to_under : (rest : Names) → to (old ++ rest) ≡ new ++ rest) (to_other : (p : Names) → ((rest : Names) → p ≢ old ++ rest) → to p ≡ p) where
   module _ (g : Shapes) (from : (q : Names) (s : Shape) → g q ≡ Some s → (p : Names) × (f p ≡ Some s) × (to p ≡ q)) (onto : (p : Names) (s : Shape) → f p ≡ Some s → g (to p) ≡ Some s) where
     dir_onto : (p q : Names) → to p ≡ q → is_dir_shape (f p) ≡ true → is_dir_shape (g q) ≡ true
@@ -30,10 +32,16 @@ module _ (f : Shapes) (next : ℕ) (is : IsTree f next) (old new above : Names) 
         (λ ne. let stays : p ≡ q ++ last ∷ [] = sym (to_other p ne) ∙ e in
         dir_onto q q (to_other q (λ rest d. ne (rest ++ last ∷ []) (stays ∙ ap (λ (x : Names). x ++ last ∷ []) d ∙ append_assoc old rest (last ∷ [])))) (is.above q last s (ap f (sym stays) ∙ h)))
 
+    named_moved : (q : Names) (s : Shape) → g q ≡ Some s → are_names q ≡ true
+    named_moved q s h = let w = from q s h in by_under w.0 old
+        (λ rest d. ap are_names (sym w.2 ∙ ap to d ∙ to_under rest) ∙ names-joined new rest named (names-rest old rest (ap are_names (sym d) ∙ is.named w.0 s w.1)))
+        (λ ne. ap are_names (sym w.2 ∙ to_other w.0 ne) ∙ is.named w.0 s w.1)
+
     pub tree-moved : IsTree g next
     tree-moved = record {
       root = ap g (sym (to_other [] (λ rest e. below_root (not_more old rest e)))) ∙ onto [] (1, true) is.root;
       above = λ q last s h. let w = from _ s h in above_from q last s w.0 w.1 w.2;
       once = λ a b s t h k same. let v = from a s h in let w = from b t k in sym v.2 ∙ ap to (is.once v.0 w.0 s t v.1 w.1 same) ∙ w.2;
       below = λ q s h. let w = from q s h in is.below w.0 s w.1;
+      named = named_moved;
     }

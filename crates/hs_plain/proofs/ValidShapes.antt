@@ -10,6 +10,7 @@ use Rattle.std.proofs.lemmas.Slice.Eq.{starts_is, bytes_eq-Decides}
 use Rattle.std.proofs.Math.Seq.{take-append_seam}
 use Rattle.hs_types.specs.Names.{Names}
 use Rattle.hs_plain.specs.Tree.{path_cmp, parent_of}
+use Rattle.hs_plain.specs.Valid.{are_names}
 use Rattle.hs_plain.proofs.ValidTrees.{paths_total, paths_exact}
 
 -- ---- paths
@@ -93,12 +94,13 @@ pub some_dir : (o : Option Shape) → is_dir_shape o ≡ true → (shape : Shape
 some_dir None h = absurd (true_false h refl)
 some_dir (Some shape) h = (shape, refl)
 
--- a root, below it nothing without a directory above, each id once and below a bound
+-- a root, below it nothing without a directory above, paths of names alone, each id once and below a bound
 pub record IsTree (f : Shapes) (next : ℕ) : Type 0 where
   pub root : f [] ≡ Some (1, true)
   pub above : (q : Names) (name : List ℕ) (s : Shape) → f (q ++ name ∷ []) ≡ Some s → is_dir_shape (f q) ≡ true
   pub once : (p q : Names) (a b : Shape) → f p ≡ Some a → f q ≡ Some b → a.0 ≡ b.0 → p ≡ q
   pub below : (q : Names) (s : Shape) → f q ≡ Some s → s.0 < next
+  pub named : (q : Names) (s : Shape) → f q ≡ Some s → are_names q ≡ true
 
 -- what is above a place of a tree is there
 pub there_above : (f : Shapes) (next : ℕ) → IsTree f next → (p rest : Names) (s : Shape) → f (p ++ rest) ≡ Some s → (t : Shape) × (f p ≡ Some t)
@@ -108,7 +110,7 @@ there_above f next is p (name ∷ rest) s h =
     some_dir (f p) (is.above p name t.0 t.1)
 
 -- a new node with the next id, in a place that isn't a directory's
-module _ (f : Shapes) (next : ℕ) (is : IsTree f next) (g : Shapes) (above : Names) (name : List ℕ) (dir : Bool) (parent : is_dir_shape (f above) ≡ true) (free : is_dir_shape (f (above ++ name ∷ [])) ≡ false)
+module _ (f : Shapes) (next : ℕ) (is : IsTree f next) (g : Shapes) (above : Names) (name : List ℕ) (dir : Bool) (parent : is_dir_shape (f above) ≡ true) (free : is_dir_shape (f (above ++ name ∷ [])) ≡ false) (named : are_names (above ++ name ∷ []) ≡ true)
     (here : g (above ++ name ∷ []) ≡ Some (next, dir)) (there : (q : Names) → q ≢ above ++ name ∷ [] → g q ≡ f q) where
   abbrev p : Names
   p = above ++ name ∷ []
@@ -138,8 +140,11 @@ module _ (f : Shapes) (next : ℕ) (is : IsTree f next) (g : Shapes) (above : Na
   below_made : (q : Names) (s : Shape) → g q ≡ Some s → s.0 < next + 1
   below_made q s h = by_same q p (λ e. let same = new q s e h in omega arith) (λ ne. let lt = is.below q s (was q s ne h) in omega arith)
 
+  named_made : (q : Names) (s : Shape) → g q ≡ Some s → are_names q ≡ true
+  named_made q s h = by_same q p (λ e. ap are_names e ∙ named) (λ ne. is.named q s (was q s ne h))
+
   pub tree-made : IsTree g (next + 1)
-  tree-made = record { root = there [] (λ e. not_last above name (sym e)) ∙ is.root; above = above_made; once = once_made; below = below_made }
+  tree-made = record { root = there [] (λ e. not_last above name (sym e)) ∙ is.root; above = above_made; once = once_made; below = below_made; named = named_made }
 
 -- nothing any more at a path and below it
 module _ (f : Shapes) (next : ℕ) (is : IsTree f next) (g : Shapes) (p : Names) (below_root : p ≢ []) (gone : (rest : Names) → g (p ++ rest) ≡ None) (there : (q : Names) → ((rest : Names) → q ≢ p ++ rest) → g q ≡ f q) where
@@ -157,4 +162,5 @@ module _ (f : Shapes) (next : ℕ) (is : IsTree f next) (g : Shapes) (p : Names)
     above = above_left;
     once = λ a b s t h k same. is.once a b s t (left a s h) (left b t k) same;
     below = λ q s h. is.below q s (left q s h);
+    named = λ q s h. is.named q s (left q s h);
   }

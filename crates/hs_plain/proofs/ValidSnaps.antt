@@ -7,7 +7,8 @@ use Rattle.std.specs.FinMap.Entries.{is_sorted}
 use Rattle.std.proofs.lemmas.Bool.Decides.{Decides-eqb, Decides-ltb}
 use Rattle.std.proofs.lemmas.List.{append_cancel_left}
 use Rattle.std.proofs.lemmas.Slice.Eq.{bytes_eq-Decides}
-use Rattle.hs_types.specs.Names.{Names}
+use Rattle.hs_types.specs.Limits.{snapshot_limit}
+use Rattle.hs_types.specs.Names.{Names, is_name}
 use Rattle.hs_types.specs.declared.ids.InodeId.{InodeId}
 use Rattle.hs_types.specs.declared.ids.SnapId.{SnapId}
 use Rattle.hs_plain.specs.declared.state.Node.{Node}
@@ -16,10 +17,11 @@ use Rattle.hs_plain.specs.declared.state.State.{State}
 use Rattle.hs_plain.specs.Tree.{Tree, path_cmp, node_at, is_root_path, same_inode, subtree}
 use Rattle.hs_plain.specs.State.{is_snapshottable, snapshots_of, is_named}
 use Rattle.hs_plain.specs.Change.{new_member, snapped, is_snapshot, unsnapped, rename_member, resnapped, ticked}
-use Rattle.hs_plain.specs.Valid.{is_dir_with, has_parents, has_each_once, has_root_on_top, all_nodes, has_clash, rises_above, rises, IsValid}
+use Rattle.hs_plain.specs.Valid.{is_dir_with, has_parents, has_names, has_each_once, has_root_on_top, all_nodes, has_clash, rises_above, rises, IsValid}
 use Rattle.hs_plain.proofs.ValidTrees.{both}
 use Rattle.hs_plain.proofs.ValidShapes.{IsTree, is_dir_shape, not_more, true_false}
-use Rattle.hs_plain.proofs.ValidNodes.{shape, shapes, parents-from, once-from}
+use Rattle.hs_plain.proofs.ValidNodes.{shape, shapes, parents-from, named-from, once-from}
+use Rattle.hs_plain.proofs.ValidNames.{names-rest}
 use Rattle.hs_plain.proofs.ValidPlaces.{all_places}
 use Rattle.hs_plain.proofs.ValidSubtrees.{node_at-subtree, sorted-subtree}
 use Rattle.hs_plain.proofs.ValidAsked.{IsDirAt, MaySnap, MayRename}
@@ -42,6 +44,9 @@ module _ {B : Type 0} where
     parents-copy : has_parents (subtree tree path) ≡ true
     parents-copy = parents-from (subtree tree path) (sorted-subtree tree path sorted)
         (λ q name s h. ap is_dir_shape (shapes-copy q) ∙ is.above (path ++ q) name s (ap (shapes tree) (append_assoc path q (name ∷ [])) ∙ sym (shapes-copy (q ++ name ∷ [])) ∙ h))
+
+    names-copy : has_names (subtree tree path) ≡ true
+    names-copy = named-from (subtree tree path) (sorted-subtree tree path sorted) (λ q s h. names-rest path q (is.named (path ++ q) s (sym (shapes-copy q) ∙ h)))
 
     once-copy : has_each_once (subtree tree path) ≡ true
     once-copy = once-from (subtree tree path) (sorted-subtree tree path sorted)
@@ -83,8 +88,8 @@ module _ {B : Type 0} where
     tick_within : (m : Member B) → In state.members m → m.tick ≤ state.tick
     tick_within m at = leb-true m.tick state.tick (all_so (λ member. nat_le member.tick state.tick) state.members valid.ticks_within m at)
 
-    few : (m : Member B) → In state.members m → snapshots_of state.members m.directory ≤ 65536
-    few m at = leb-true (snapshots_of state.members m.directory) 65536 (all_so (λ member. nat_le (snapshots_of state.members member.directory) 65536) state.members valid.at_most m at)
+    few : (m : Member B) → In state.members m → snapshots_of state.members m.directory ≤ snapshot_limit
+    few m at = leb-true (snapshots_of state.members m.directory) snapshot_limit (all_so (λ member. nat_le (snapshots_of state.members member.directory) snapshot_limit) state.members valid.at_most m at)
 
     -- ---- one more
 
@@ -115,10 +120,10 @@ module _ {B : Type 0} where
           taken : (m : Member B) → In state.members m → m.directory ≡ node.id → m.name ≡ name → ⊥
           taken m at d n = true_false (both (inode_test m.directory node.id (ap (λ (id : InodeId). id.0) d)) ((bytes_eq-Decides m.name name).1 n)) (none_so (is_named node.id name) state.members may.free m at)
 
-      few-snapped : (m : Member B) → In members m → snapshots_of members m.directory ≤ 65536
+      few-snapped : (m : Member B) → In members m → snapshots_of members m.directory ≤ snapshot_limit
       few-snapped m at =
           let sum : snapshots_of members m.directory ≡ snapshots_of state.members m.directory + cond (same_inode node.id m.directory) 1 0 = count-push state.members new m.directory in
-          let room : snapshots_of state.members node.id < 65536 = leb-false 65536 (snapshots_of state.members node.id) may.room in
+          let room : snapshots_of state.members node.id < snapshot_limit = leb-false snapshot_limit (snapshots_of state.members node.id) may.room in
           by_test (same_inode node.id m.directory)
           (λ t. let one : snapshots_of members m.directory ≡ snapshots_of state.members m.directory + 1 = sum ∙ ap (λ b. snapshots_of state.members m.directory + cond b 1 0) t in
           let here : snapshots_of state.members m.directory ≡ snapshots_of state.members node.id = ap (snapshots_of state.members) (sym (inode_so node.id m.directory t)) in
@@ -136,6 +141,7 @@ module _ {B : Type 0} where
         sorted = valid.sorted;
         root = valid.root;
         parents = valid.parents;
+        names = valid.names;
         each_once = valid.each_once;
         one_kind = clash-fewer state valid (ticked (snapped state name (path, node))) refl valid.sorted copies-snapped fewer-snapped;
         ids_below = ids-fewer state valid (ticked (snapped state name (path, node))) refl valid.sorted copies-snapped fewer-snapped;
@@ -146,6 +152,7 @@ module _ {B : Type 0} where
         member_roots = all-push (λ member. is_dir_with member.directory (node_at member.tree [])) state.members new valid.member_roots (root-copy state.tree state.next_inode valid.sorted is path node may.is_there);
         copies_sorted = copies-snapped;
         copies_parents = all-push (λ member. has_parents member.tree) state.members new valid.copies_parents (parents-copy state.tree state.next_inode valid.sorted is path node may.is_there);
+        copies_names = all-push (λ member. has_names member.tree) state.members new valid.copies_names (names-copy state.tree state.next_inode valid.sorted is path node may.is_there);
         copies_each_once = all-push (λ member. has_each_once member.tree) state.members new valid.copies_each_once (once-copy state.tree state.next_inode valid.sorted is path node may.is_there);
         copies_root_on_top = all-push (λ member. has_root_on_top member.tree) state.members new valid.copies_root_on_top (top-copy state.tree state.next_inode valid.sorted is path node may.is_there);
         snapshots_rise = rise-snapped;
@@ -157,8 +164,9 @@ module _ {B : Type 0} where
         ticks_within = all_from (λ member. nat_le member.tick (state.tick + 1)) members (λ m at. le-leb m.tick (state.tick + 1) (by_push state.members new m at
             (λ old. let le = tick_within m old in omega arith)
             (λ e. let same : state.tick + 1 ≡ m.tick = ap (λ (x : Member B). x.tick) e in omega arith)));
+        member_names = all-push (λ member. is_name member.name) state.members new valid.member_names may.named;
         different_names = names-from members 0 rise-snapped named-snapped;
-        at_most = all_from (λ member. nat_le (snapshots_of members member.directory) 65536) members (λ m at. le-leb (snapshots_of members m.directory) 65536 (few-snapped m at));
+        at_most = all_from (λ member. nat_le (snapshots_of members member.directory) snapshot_limit) members (λ m at. le-leb (snapshots_of members m.directory) snapshot_limit (few-snapped m at));
       }
 
     ticks-later : (ms : List (Member B)) → list_all (λ member. nat_le member.tick state.tick) ms ≡ true → list_all (λ member. nat_le member.tick (state.tick + 1)) ms ≡ true
@@ -189,6 +197,7 @@ module _ {B : Type 0} where
         sorted = valid.sorted;
         root = valid.root;
         parents = valid.parents;
+        names = valid.names;
         each_once = valid.each_once;
         one_kind = clash-fewer state valid (ticked (unsnapped state id)) refl valid.sorted copies-unsnapped fewer-unsnapped;
         ids_below = ids-fewer state valid (ticked (unsnapped state id)) refl valid.sorted copies-unsnapped fewer-unsnapped;
@@ -199,6 +208,7 @@ module _ {B : Type 0} where
         member_roots = all-filter (λ member. is_dir_with member.directory (node_at member.tree [])) keeps state.members valid.member_roots;
         copies_sorted = copies-unsnapped;
         copies_parents = all-filter (λ member. has_parents member.tree) keeps state.members valid.copies_parents;
+        copies_names = all-filter (λ member. has_names member.tree) keeps state.members valid.copies_names;
         copies_each_once = all-filter (λ member. has_each_once member.tree) keeps state.members valid.copies_each_once;
         copies_root_on_top = all-filter (λ member. has_root_on_top member.tree) keeps state.members valid.copies_root_on_top;
         snapshots_rise = rise-unsnapped;
@@ -206,8 +216,9 @@ module _ {B : Type 0} where
         next_snapshot_above = valid.next_snapshot_above;
         ticks_rise = rises-filter (λ (m : Member B). m.tick) keeps state.members valid.ticks_rise;
         ticks_within = ticks-later left (all-filter (λ member. nat_le member.tick state.tick) keeps state.members valid.ticks_within);
+        member_names = all-filter (λ member. is_name member.name) keeps state.members valid.member_names;
         different_names = names-from left 0 rise-unsnapped (λ a b ina inb. names_so state.members valid.different_names a b (filter_so keeps state.members a ina).0 (filter_so keeps state.members b inb).0);
-        at_most = all_from (λ member. nat_le (snapshots_of left member.directory) 65536) left (λ m at. le-leb (snapshots_of left m.directory) 65536
+        at_most = all_from (λ member. nat_le (snapshots_of left member.directory) snapshot_limit) left (λ m at. le-leb (snapshots_of left m.directory) snapshot_limit
             (let le = count-filter keeps state.members m.directory in let most = few m (filter_so keeps state.members m at).0 in omega arith));
       }
 
@@ -252,11 +263,18 @@ module _ {B : Type 0} where
           let same_name : (rename_member id name a.0).name ≡ (rename_member id name b.0).name = ap (λ (m : Member B). m.name) a.2 ∙ n ∙ ap (λ (m : Member B). m.name) (sym b.2) in
           ap snapshot_of (sym a.2) ∙ renamed-keeps snapshot_of (λ _ _. refl) id name a.0 ∙ named-old a.0 b.0 a.1 b.1 same_dir same_name ∙ sym (renamed-keeps snapshot_of (λ _ _. refl) id name b.0) ∙ ap snapshot_of b.2
 
+      is_named-under : (m : Member B) → In under m → is_name m.name ≡ true
+      is_named-under m at = let w = map_so (rename_member id name) state.members m at in
+          ap (λ (x : Member B). is_name x.name) (sym w.2) ∙ same-but_name id name w.0
+          (λ t e. ap (λ (x : Member B). is_name x.name) e ∙ may.named)
+          (λ f e. ap (λ (x : Member B). is_name x.name) e ∙ all_so (λ member. is_name member.name) state.members valid.member_names w.0 w.1)
+
       pub valid-resnapped : IsValid (ticked (resnapped state name id))
       valid-resnapped = record {
         sorted = valid.sorted;
         root = valid.root;
         parents = valid.parents;
+        names = valid.names;
         each_once = valid.each_once;
         one_kind = clash-fewer state valid (ticked (resnapped state name id)) refl valid.sorted copies-resnapped fewer-resnapped;
         ids_below = ids-fewer state valid (ticked (resnapped state name id)) refl valid.sorted copies-resnapped fewer-resnapped;
@@ -267,6 +285,7 @@ module _ {B : Type 0} where
         member_roots = all-renamed (λ member. is_dir_with member.directory (node_at member.tree [])) (λ _ _. refl) id name state.members valid.member_roots;
         copies_sorted = copies-resnapped;
         copies_parents = all-renamed (λ member. has_parents member.tree) (λ _ _. refl) id name state.members valid.copies_parents;
+        copies_names = all-renamed (λ member. has_names member.tree) (λ _ _. refl) id name state.members valid.copies_names;
         copies_each_once = all-renamed (λ member. has_each_once member.tree) (λ _ _. refl) id name state.members valid.copies_each_once;
         copies_root_on_top = all-renamed (λ member. has_root_on_top member.tree) (λ _ _. refl) id name state.members valid.copies_root_on_top;
         snapshots_rise = rise-resnapped;
@@ -274,9 +293,10 @@ module _ {B : Type 0} where
         next_snapshot_above = valid.next_snapshot_above;
         ticks_rise = ap rises (map-renamed (λ m. m.tick) (λ _ _. refl) id name state.members) ∙ valid.ticks_rise;
         ticks_within = ticks-later under (all-renamed (λ member. nat_le member.tick state.tick) (λ _ _. refl) id name state.members valid.ticks_within);
+        member_names = all_from (λ member. is_name member.name) under is_named-under;
         different_names = names-from under 0 rise-resnapped named-resnapped;
-        at_most = all_from (λ member. nat_le (snapshots_of under member.directory) 65536) under (λ m at.
+        at_most = all_from (λ member. nat_le (snapshots_of under member.directory) snapshot_limit) under (λ m at.
             let w = map_so (rename_member id name) state.members m at in
             let dir : m.directory ≡ w.0.directory = ap (λ (x : Member B). x.directory) (sym w.2) ∙ renamed-keeps (λ x. x.directory) (λ _ _. refl) id name w.0 in
-            ap (λ n. nat_le n 65536) (count-renamed id name state.members m.directory ∙ ap (snapshots_of state.members) dir) ∙ le-leb (snapshots_of state.members w.0.directory) 65536 (few w.0 w.1));
+            ap (λ n. nat_le n snapshot_limit) (count-renamed id name state.members m.directory ∙ ap (snapshots_of state.members) dir) ∙ le-leb (snapshots_of state.members w.0.directory) snapshot_limit (few w.0 w.1));
       }

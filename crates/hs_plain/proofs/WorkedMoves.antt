@@ -1,6 +1,6 @@
 -- Worked examples of moves, by computation.
 use Rattle.std.proofs.Common.{refl}
-use Rattle.hs_plain.specs.WorkedMoves.{MovedOut, RenamedDirectory, Overwritten, HeldInPlace, NestedNowhere}
+use Rattle.hs_plain.specs.worked.Moves.{MovedOut, RenamedDirectory, Overwritten, HeldInPlace, NestedNowhere}
 
 pub moved_out : MovedOut
 moved_out = record { told_so = refl; proper = refl }

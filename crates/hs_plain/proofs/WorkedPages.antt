@@ -1,6 +1,6 @@
 -- Worked examples of snapshots and pages, by computation.
 use Rattle.std.proofs.Common.{refl}
-use Rattle.hs_plain.specs.WorkedPages.{MiddleDeleted, PagesOfTwo, MovedReport}
+use Rattle.hs_plain.specs.worked.Pages.{MiddleDeleted, PagesOfTwo, MovedReport}
 
 pub middle_deleted : MiddleDeleted
 middle_deleted = record { told_so = refl; proper = refl }

@@ -1,6 +1,6 @@
 -- Worked examples of refusals and of bytes, by computation.
 use Rattle.std.proofs.Common.{refl}
-use Rattle.hs_plain.specs.WorkedRefusals.{RefusedCalls, GrownBehind}
+use Rattle.hs_plain.specs.worked.Refusals.{RefusedCalls, GrownBehind}
 
 pub refused_calls : RefusedCalls
 refused_calls = record { told_so = refl; proper = refl }

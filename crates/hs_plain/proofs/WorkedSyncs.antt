@@ -5,7 +5,7 @@ use Rattle.hs_types.specs.Names.{Names}
 use Rattle.hs_plain.specs.declared.state.Body.{Body}
 use Rattle.hs_plain.specs.declared.state.Body.TheVariants.{File, Dir}
 use Rattle.hs_plain.specs.Plan.{plan_calls, content}
-use Rattle.hs_plain.specs.WorkedSyncs.{copy_after, tree_after, beside_before, beside_after, beside_plan, beside_synced, RenameBeside, swapped_before, swapped_after, swapped_plan, swapped_synced, Swapped, new_before, new_after, new_plan, new_synced, NewDirectories, SwappedLead, CreatedLead}
+use Rattle.hs_plain.specs.worked.Syncs.{copy_after, tree_after, beside_before, beside_after, beside_plan, beside_synced, RenameBeside, swapped_before, swapped_after, swapped_plan, swapped_synced, Swapped, new_before, new_after, new_plan, new_synced, NewDirectories, SwappedLead, CreatedLead}
 
 -- ---- a rename beside a new file of the old name
 

@@ -1,7 +1,6 @@
 -- Pages, one after another, of one content.
 use Rattle.std.specs.Prelude.{◌≡◌, ◌⊎◌, ℕ, Bool, true, false, ◌||◌, if◌then◌else◌, List, [], ◌∷◌, ◌++◌, take, Option, Some, None}
-use Rattle.std.specs.List.{flat_map, AllByRecursion}
-use Rattle.hs_types.specs.declared.ids.CallerId.{CallerId}
+use Rattle.std.specs.List.{flat_map}
 use Rattle.hs_types.specs.declared.journal.Entry.{Entry}
 use Rattle.hs_types.specs.declared.call.ListCursor.{ListCursor}
 use Rattle.hs_types.specs.declared.call.ReadCursor.{ReadCursor}
@@ -13,8 +12,8 @@ use Rattle.hs_types.specs.declared.reply.Reply.{Reply}
 use Rattle.hs_types.specs.declared.reply.Reply.TheVariants as replies
 use Rattle.hs_plain.specs.declared.state.State.{State}
 use Rattle.hs_plain.specs.Answer.{blank, is_store_fault, is_journal_full}
-use Rattle.hs_plain.specs.Replay.{plain_after, is_proper}
-use Rattle.hs_plain.specs.Legal.{Said, IsLegalCall, places_rise}
+use Rattle.hs_plain.specs.Replay.{plain_after}
+use Rattle.hs_plain.specs.Legal.{Said}
 
 -- ---- pages that join
 
@@ -100,14 +99,6 @@ gone_or_failed reply = gone_or_no_memory reply || is_store_fault reply || is_jou
 -- what is claimed of bytes: over a store that doesn't tell them how many there are
 abbrev pub claimed_bytes : Bool → List ℕ → List ℕ
 claimed_bytes tells bytes = if tells then bytes else blank bytes
-
--- ---- calls of one caller
-
--- calls that one caller made one after the other, answered legally
-pub record AreAnswered (tells : Bool) (limit : ℕ) (journal : List Entry) (caller : CallerId) (first : Said) (more : List Said) : Type 0 where
-  pub proper : is_proper journal ≡ true
-  pub each : AllByRecursion (λ said. IsLegalCall tells limit journal caller said.seq said.call said.told) (first ∷ more)
-  pub places : places_rise 0 (first ∷ more) ≡ true
 
 -- the state that an answer knows
 abbrev pub known_state : List Entry → Said → State (List ℕ)

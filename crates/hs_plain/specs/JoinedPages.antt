@@ -1,5 +1,5 @@
 -- Pages of frozen directories and files and of reports, whatever entries come between them, join to one content.
-use Rattle.std.specs.Prelude.{◌≡◌, ℕ, ◌≤◌, Bool, true, ◌&&◌, ◌||◌, ◌==◌, List, drop, Option, None, Ok, Err}
+use Rattle.std.specs.Prelude.{◌≡◌, ℕ, ◌≤◌, Bool, true, ◌&&◌, ◌||◌, ◌==◌, List, ◌∷◌, drop, Option, None, Ok, Err}
 use Rattle.hs_types.specs.Paths.{path_of}
 use Rattle.hs_types.specs.declared.ids.CallerId.{CallerId}
 use Rattle.hs_types.specs.declared.ids.InodeId.{InodeId}
@@ -20,8 +20,8 @@ use Rattle.hs_plain.specs.Asked.{Asked, ◌>>=◌}
 use Rattle.hs_plain.specs.State.{resolve, items_at}
 use Rattle.hs_plain.specs.Pages.{items_behind}
 use Rattle.hs_plain.specs.Reading.{file_at, snapshottable_at, point_id, lines_between}
-use Rattle.hs_plain.specs.Legal.{Said}
-use Rattle.hs_plain.specs.Joined.{AreFurtherPages, AreJoined, AreAnswered, known_state, items_shown, list_cursor, is_page, bytes_shown, read_cursor, is_bytes, lines_shown, report_cursor, is_report, is_moved_reply, gone_or_no_memory, gone_or_failed, claimed_bytes}
+use Rattle.hs_plain.specs.Legal.{Said, AreAnswered}
+use Rattle.hs_plain.specs.Joined.{AreFurtherPages, AreJoined, known_state, items_shown, list_cursor, is_page, bytes_shown, read_cursor, is_bytes, lines_shown, report_cursor, is_report, is_moved_reply, gone_or_no_memory, gone_or_failed, claimed_bytes}
 
 -- how many items or lines a call asks for
 abbrev pub page_size : Call → ℕ
@@ -62,7 +62,7 @@ pub record IsJoinedListing {B : Type 0} (state : State B) (place : Place) (after
 -- the pages of a frozen directory, from a path or a cursor on
 abbrev pub ListingsJoin : Type 0
 ListingsJoin = (tells : Bool) (limit : ℕ) (journal : List Entry) (caller : CallerId) (first : Said) (more : List Said) (id : InodeId) (snapshot : SnapId) (after : Option (List ℕ)) →
-    AreAnswered tells limit journal caller first more →
+    AreAnswered tells limit journal caller (first ∷ more) →
     1 ≤ page_size first.call →
     AreFurtherPages GoesOnList (λ said. list_cursor said.told.reply) first more →
     listed_at (known_state journal first) first.call ≡ Ok (places.Frozen id snapshot, after) →
@@ -93,7 +93,7 @@ pub record IsJoinedFile (tells : Bool) (state : State (List ℕ)) (place : Place
 -- the pages of a frozen file, from a path or a cursor on; over a store that doesn't tell its bytes there are as many
 abbrev pub FilesJoin : Type 0
 FilesJoin = (tells : Bool) (limit : ℕ) (journal : List Entry) (caller : CallerId) (first : Said) (more : List Said) (id : InodeId) (snapshot : SnapId) (offset : ℕ) →
-    AreAnswered tells limit journal caller first more →
+    AreAnswered tells limit journal caller (first ∷ more) →
     AreFurtherPages GoesOnRead (λ said. read_cursor said.told.reply) first more →
     read_at (known_state journal first) first.call ≡ Ok (places.Frozen id snapshot, offset) →
     is_bytes first.told.reply ≡ true →
@@ -127,7 +127,7 @@ gone_or_moved begun reply = gone_or_no_memory reply || (has_now begun && is_move
 -- or Moved where an end is the current state
 abbrev pub ReportsJoin : Type 0
 ReportsJoin = (tells : Bool) (limit : ℕ) (journal : List Entry) (caller : CallerId) (first : Said) (more : List Said) (begun : ReportCursor) →
-    AreAnswered tells limit journal caller first more →
+    AreAnswered tells limit journal caller (first ∷ more) →
     AreFurtherPages GoesOnReport (λ said. report_cursor said.told.reply) first more →
     reported_at (known_state journal first) first.call ≡ Ok begun →
     is_report first.told.reply ≡ true →

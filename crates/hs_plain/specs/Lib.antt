@@ -3,7 +3,6 @@ pub mod Files
 pub mod Tree
 pub mod State
 pub mod Valid
-pub mod Places
 pub mod Pages
 pub mod Report
 pub mod Modifying
@@ -15,7 +14,6 @@ pub mod Replay
 pub mod Legal
 pub mod Span
 pub mod Plan
-pub mod PlanCalls
 pub mod Premises
 pub mod Lines
 pub mod Served
@@ -24,12 +22,7 @@ pub mod Answers
 pub mod Ticks
 pub mod Ordered
 pub mod Joined
-pub mod Cuts
 pub mod JoinedPages
-pub mod Worked
-pub mod WorkedMoves
-pub mod WorkedPages
-pub mod WorkedRefusals
-pub mod WorkedSyncs
-pub mod Faults
 pub mod Viewed
+pub mod worked
+pub mod inside

@@ -26,6 +26,6 @@ lines_of bytes tree = map (tree_line bytes tree) tree
 abbrev pub tree_lines : State (List ℕ) → List TreeLine
 tree_lines state = lines_of length state.tree
 
--- while no records are kept: rows are the live nodes, and list entries all but the root; the blocks are those of a store
+-- the counts of a namenode as it is today, which keeps no records: rows are the live nodes, and list entries all but the root; the blocks are those of a store
 abbrev pub live_counts : {B : Type 0} → State B → ℕ → Counts
 live_counts state blocks = record { rows = length state.tree; records = 0; list_entries = length state.tree - 1; snapshots = length state.members; blocks = blocks }

@@ -23,7 +23,7 @@ use Rattle.hs_plain.specs.declared.plan.Listing.{Listing}
 use Rattle.hs_plain.specs.declared.state.Node.{Node}
 use Rattle.hs_plain.specs.declared.state.Body.{Body}
 use Rattle.hs_plain.specs.declared.state.Body.TheVariants.{File, Dir}
-use Rattle.hs_plain.specs.Tree.{Tree, node_at, is_dir, parent_of, is_root_path, name_below, listing, same_path, place_of}
+use Rattle.hs_plain.specs.Tree.{Tree, node_at, is_dir, parent_of, is_root_path, name_below, listing, same_path, place_of, path_at}
 use Rattle.hs_plain.specs.Report.{same_place, parent_stays, is_changed, last_of, report}
 use Rattle.hs_plain.specs.Span.{paths_in}
 
@@ -40,10 +40,6 @@ is_renamed kind = false
 abbrev pub is_created : LineKind → Bool
 is_created Created = true
 is_created kind = false
-
-abbrev pub path_at : {B : Type 0} → Option (Names × Node B) → Option Names
-path_at None = None
-path_at (Some place) = Some place.0
 
 -- a source of a move, with its target and what is left of a path below it
 pub record Lead : Type 0 where

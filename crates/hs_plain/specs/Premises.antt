@@ -1,4 +1,4 @@
--- Under what a sync is promised to be done, and to leave the target equal to its `to`.
+-- The premises under which a sync is to be done, and to leave the target equal to its `to`.
 use Rattle.std.specs.Prelude.{◌≡◌, ℕ, ◌<◌, true, List, [], take, Ok}
 use Rattle.hs_types.specs.declared.ids.CallerId.{CallerId}
 use Rattle.hs_types.specs.declared.ids.SnapId.{SnapId}
@@ -50,9 +50,10 @@ IsUnchanged target base = lines_between target base.directory base.snapshot now 
 abbrev pub MeetsNoFault : List Entry → Span → List CallerId → Type 0
 MeetsNoFault journal span callers = (index : ℕ) (entry : Entry) → IsInSpan journal span index entry → is_one_of callers entry.caller ≡ true → is_accepted entry.kind ≡ true
 
--- one side of a sync: the journal, the span, and the sync's callers there
+-- one side of a sync: the journal, how many entries it may have, the span, and the sync's callers there
 pub record SyncSide : Type 0 where
   pub journal : List Entry
+  pub limit : ℕ
   pub span : Span
   pub callers : List CallerId
 
@@ -60,7 +61,7 @@ pub record SyncSide : Type 0 where
 abbrev pub state_before : SyncSide → State (List ℕ)
 state_before side = plain_after (take side.span.low side.journal)
 
--- the target ends equal to `to`: equal snapshots, an unchanged target that nobody else writes, and snapshots that stay
+-- for a target that ends equal to `to`: equal snapshots, an unchanged target that nobody else writes, and snapshots that stay
 pub record IsUndisturbed (ask : SyncAsk) (source target : SyncSide) : Type 0 where
   pub begins : BeginsEqual ask (state_before source) (state_before target)
   pub unchanged : IsUnchanged (state_before target) begins.base
@@ -69,10 +70,10 @@ pub record IsUndisturbed (ask : SyncAsk) (source target : SyncSide) : Type 0 whe
   pub to_stays : Stays source.journal source.span begins.to.snapshot
   pub base_stays : Stays target.journal target.span begins.base.snapshot
 
--- and it is done, or memory runs out: no fault is met, no journal comes to its limit, and the plan's paths meet the path rules
-pub record IsUnhindered (ask : SyncAsk) (limit : ℕ) (source target : SyncSide) (undisturbed : IsUndisturbed ask source target) : Type 0 where
+-- and for a sync that is done, unless memory runs out: no fault is met, no journal comes to its limit, and the plan's paths meet the path rules
+pub record IsUnhindered (ask : SyncAsk) (source target : SyncSide) (undisturbed : IsUndisturbed ask source target) : Type 0 where
   pub source_faults : MeetsNoFault source.journal source.span source.callers
   pub target_faults : MeetsNoFault target.journal target.span target.callers
-  pub source_room : source.span.high < limit
-  pub target_room : target.span.high < limit
+  pub source_room : source.span.high < source.limit
+  pub target_room : target.span.high < target.limit
   pub paths : bad_paths (plan_calls ask.target_root (plan_of undisturbed.begins.from.tree undisturbed.begins.to.tree (root_names undisturbed.begins.base.tree)) undisturbed.begins.to.tree) ≡ []

@@ -1,14 +1,8 @@
 -- What the tick is.
-use Rattle.std.specs.Prelude.{◌≡◌, ℕ, ◌+◌, List, length}
+use Rattle.std.specs.Prelude.{◌≡◌, List, length}
 use Rattle.hs_types.specs.declared.journal.Entry.{Entry}
-use Rattle.hs_plain.specs.declared.state.State.{State}
-use Rattle.hs_plain.specs.Files.{plain_files}
-use Rattle.hs_plain.specs.Replay.{replay_from, plain_after}
+use Rattle.hs_plain.specs.Replay.{plain_after}
 
 -- the tick of a state is the number of entries that led to it
 abbrev pub TickCounts : Type 0
 TickCounts = (entries : List Entry) → (plain_after entries).tick ≡ length entries
-
--- and entries raise it by their number
-abbrev pub TickRises : Type 0
-TickRises = (state : State (List ℕ)) (entries : List Entry) → (replay_from plain_files state entries).tick ≡ state.tick + length entries

@@ -1,14 +1,12 @@
 -- A tree is the list of its places, by rising paths: a finite map from paths to nodes.
-use Rattle.std.specs.Prelude.{ℕ, ◌-◌, Bool, true, false, ◌&&◌, ◌==◌, nat_lt, bytes_eq, if◌then◌else◌, List, [], ◌∷◌, ◌++◌, map, length, take, drop, slice_get, Option, Some, None, Ok, Err}
+use Rattle.std.specs.Prelude.{ℕ, ◌-◌, Bool, true, false, ◌&&◌, ◌==◌, nat_lt, bytes_eq, if◌then◌else◌, List, [], ◌∷◌, ◌++◌, map, length, take, drop, Option, Some, None, Ok, Err}
 use Rattle.std.specs.List.{filter, filter_map, starts_with}
-use Rattle.std.specs.Ordering.{nat_cmp, is_gt, is_eq}
+use Rattle.std.specs.Ordering.{nat_cmp}
 use Rattle.std.specs.declared.cmp.Ordering.{Ordering}
 use Rattle.std.specs.Cmp.Lexicographic.{slice_cmp, pointwise}
 use Rattle.std.specs.FinMap.Entries.{find}
-use Rattle.std.specs.Option.{option_map}
 use Rattle.hs_types.specs.Names.{Names}
 use Rattle.hs_types.specs.declared.ids.InodeId.{InodeId}
-use Rattle.hs_types.specs.declared.name.Spot.{Spot}
 use Rattle.hs_types.specs.declared.refusal.Refusal.TheVariants.{NotFound, NotDir}
 use Rattle.hs_types.specs.declared.reply.Item.{Item}
 use Rattle.hs_plain.specs.declared.state.Node.{Node}
@@ -23,15 +21,6 @@ Tree B = List (Names × Node B)
 -- names by their bytes, paths name by name, a path before those below it
 abbrev pub path_cmp : Names → Names → Ordering
 path_cmp = slice_cmp (slice_cmp nat_cmp)
-
--- whether a path comes after a place
-abbrev pub is_after : {B : Type 0} → Names → Names × Node B → Bool
-is_after path place = is_gt (path_cmp path place.0)
-
--- whether a place is at a path
-abbrev pub is_place_at : {B : Type 0} → Names → Option (Names × Node B) → Bool
-is_place_at path None = false
-is_place_at path (Some place) = is_eq (path_cmp path place.0)
 
 -- the node at a path
 abbrev pub node_at : {B : Type 0} → Tree B → Names → Option (Node B)
@@ -122,15 +111,6 @@ is_under path place = starts_with bytes_eq place.0 path
 abbrev pub subtree : {B : Type 0} → Tree B → Names → Tree B
 subtree tree path = map (λ place. (drop (length path) place.0, place.1)) (filter (is_under path) tree)
 
--- where a node stands: under which directory, and by which name; the root stands nowhere
-abbrev pub spot_under : {B : Type 0} → Option (Node B) → Names → Option Spot
-spot_under above [] = None
-spot_under None (name ∷ names) = None
-spot_under (Some dir) (name ∷ names) = option_map (λ own. record { parent = dir.id; name = own }) (slice_get (name ∷ names) (length names))
-
-abbrev pub spot_at : {B : Type 0} → Tree B → Names → Option Spot
-spot_at tree path = spot_under (node_at tree (parent_of path)) path
-
 abbrev pub same_inode : InodeId → InodeId → Bool
 same_inode a b = a.0 == b.0
 
@@ -138,3 +118,8 @@ same_inode a b = a.0 == b.0
 abbrev pub place_of : {B : Type 0} → Tree B → InodeId → Option (Names × Node B)
 place_of [] id = None
 place_of (place ∷ places) id = if same_inode place.1.id id then Some place else place_of places id
+
+-- the path of a place, if there is one
+abbrev pub path_at : {B : Type 0} → Option (Names × Node B) → Option Names
+path_at None = None
+path_at (Some place) = Some place.0

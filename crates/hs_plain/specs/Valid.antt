@@ -2,12 +2,13 @@
 use Rattle.std.specs.Prelude.{◌≡◌, ℕ, ◌<◌, Bool, true, false, not, ◌&&◌, ◌||◌, ◌==◌, nat_lt, nat_le, bytes_eq, List, [], ◌∷◌, ◌++◌, map, Option, Some, None}
 use Rattle.std.specs.List.{Contains, list_any, list_all, filter_map, flat_map}
 use Rattle.std.specs.FinMap.Entries.{is_sorted}
-use Rattle.hs_types.specs.Names.{Names}
+use Rattle.hs_types.specs.Names.{Names, is_name}
+use Rattle.hs_types.specs.Limits.{snapshot_limit}
 use Rattle.hs_types.specs.declared.ids.InodeId.{InodeId}
 use Rattle.hs_plain.specs.declared.state.Node.{Node}
 use Rattle.hs_plain.specs.declared.state.Member.{Member}
 use Rattle.hs_plain.specs.declared.state.State.{State}
-use Rattle.hs_plain.specs.Tree.{Tree, path_cmp, node_at, is_dir, parent_of, is_root_path, is_above, same_inode, place_of}
+use Rattle.hs_plain.specs.Tree.{Tree, path_cmp, node_at, is_dir, parent_of, is_root_path, is_above, same_inode, place_of, path_at}
 use Rattle.hs_plain.specs.State.{is_snapshottable, snapshots_of}
 
 -- ---- trees
@@ -37,6 +38,14 @@ all_differ (number ∷ numbers) = not (list_any (λ other. number == other) numb
 abbrev pub has_each_once : {B : Type 0} → Tree B → Bool
 has_each_once tree = all_differ (map (λ place. place.1.id.0) tree)
 
+-- each component of a path is a name
+abbrev pub are_names : Names → Bool
+are_names path = list_all is_name path
+
+-- each path has names alone
+abbrev pub has_names : {B : Type 0} → Tree B → Bool
+has_names tree = list_all (λ place. are_names place.0) tree
+
 -- the id 1 stands at the root alone
 abbrev pub has_root_on_top : {B : Type 0} → Tree B → Bool
 has_root_on_top tree = list_all (λ place. is_root_path place.0 || not (place.1.id.0 == 1)) tree
@@ -59,10 +68,6 @@ has_clash nodes = list_any (λ a. list_any (clash a) nodes) nodes
 abbrev pub is_dir_place : {B : Type 0} → Option (Names × Node B) → Bool
 is_dir_place None = false
 is_dir_place (Some place) = is_dir place.1
-
-abbrev pub path_at : {B : Type 0} → Option (Names × Node B) → Option Names
-path_at None = None
-path_at (Some place) = Some place.0
 
 abbrev pub snapshottable_paths : {B : Type 0} → State B → List Names
 snapshottable_paths state = filter_map (λ id. path_at (place_of state.tree id)) state.snapshottable
@@ -105,6 +110,8 @@ pub record IsValid {B : Type 0} (state : State B) : Type 0 where
   pub root : is_dir_with (record { 0 = 1 }) (node_at state.tree []) ≡ true
   -- each place but the root has its parent, and that is a directory
   pub parents : has_parents state.tree ≡ true
+  -- each component of each path is a name
+  pub names : has_names state.tree ≡ true
   -- no id stands twice in it
   pub each_once : has_each_once state.tree ≡ true
   -- no id is a directory's in one tree and a file's in another
@@ -125,6 +132,8 @@ pub record IsValid {B : Type 0} (state : State B) : Type 0 where
   pub copies_sorted : list_all (λ member. is_sorted path_cmp member.tree) state.members ≡ true
   -- each of its places but its root has its parent, and that is a directory
   pub copies_parents : list_all (λ member. has_parents member.tree) state.members ≡ true
+  -- each component of each of its paths is a name
+  pub copies_names : list_all (λ member. has_names member.tree) state.members ≡ true
   -- no id stands twice in it
   pub copies_each_once : list_all (λ member. has_each_once member.tree) state.members ≡ true
   -- the id 1 stands in it as its root alone
@@ -139,10 +148,12 @@ pub record IsValid {B : Type 0} (state : State B) : Type 0 where
   pub ticks_rise : rises (map (λ member. member.tick) state.members) ≡ true
   -- and are at most the tick
   pub ticks_within : list_all (λ member. nat_le member.tick state.tick) state.members ≡ true
+  -- each snapshot's name is a name
+  pub member_names : list_all (λ member. is_name member.name) state.members ≡ true
   -- the snapshots of one directory have different names
   pub different_names : names_differ state.members ≡ true
   -- and are at most 65,536 (HDFS Snapshots guide)
-  pub at_most : list_all (λ member. nat_le (snapshots_of state.members member.directory) 65536) state.members ≡ true
+  pub at_most : list_all (λ member. nat_le (snapshots_of state.members member.directory) snapshot_limit) state.members ≡ true
 
 -- ---- stamps
 

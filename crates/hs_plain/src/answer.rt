@@ -3,7 +3,7 @@ ghost use Rattle.std.specs.Prelude.{◌≡◌, ◌≢◌, Ok, Err, MatchResult};
 ghost use Rattle.hs_plain.specs.Answer;
 ghost use Rattle.hs_plain.specs.Served;
 ghost use Rattle.hs_plain.specs.Files.{plain_files};
-ghost use Rattle.hs_plain.specs.Faults.{IsFaultOf, told_reply};
+ghost use Rattle.hs_plain.specs.inside.Faults.{IsFaultOf, told_reply};
 
 pub use crate::modifying::{
     append_at, create_at, delete_at, live_path, mkdir_at, plain_of, read_path, rename_at,

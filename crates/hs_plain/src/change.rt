@@ -3,8 +3,9 @@ ghost use Rattle.std.specs.Prelude.{◌≡◌, ◌+◌, ◌<◌, ◌≤◌, ◌^
 ghost use Rattle.std.specs.List.{prefix_len, zip};
 ghost use Rattle.std.specs.FinMap.Entries.{put, is_sorted};
 ghost use Rattle.hs_types.specs.declared.call.Call.TheVariants as calls;
-ghost use Rattle.hs_plain.specs.Faults.{IsFaultOf};
+ghost use Rattle.hs_plain.specs.inside.Faults.{IsFaultOf};
 ghost use Rattle.hs_plain.specs.Tree as trees;
+ghost use Rattle.hs_plain.specs.inside.Ranks;
 ghost use Rattle.hs_plain.specs.State.{new_dir};
 ghost use Rattle.hs_plain.specs.Files.{plain_files};
 ghost use Rattle.hs_plain.specs.Answer.{asked, made_reply, is_modifying, uses_store};
@@ -70,7 +71,7 @@ fn remode_all<B>(places: &mut Vec<(RelPath, Node<B>)>, path: &[Name], mode: Mode
 /// How many places at the front stand before a path, by halves.
 fn rank_by_halves<B>(places: &[(RelPath, Node<B>)], path: &[Name]) -> usize
     requires { is_sorted trees.path_cmp places.now ≡ true }
-    ensures rank { result ≡ prefix_len (trees.is_after path.now) places.now }
+    ensures rank { result ≡ prefix_len (Ranks.is_after path.now) places.now }
     ensures within { result ≤ length places.now }
 {
     places.partition_point(|place| compare_paths(path, place.0.items()) == Ordering::Greater)
@@ -79,7 +80,7 @@ fn rank_by_halves<B>(places: &[(RelPath, Node<B>)], path: &[Name]) -> usize
 /// Whether a path comes behind all places.
 fn comes_last<B>(places: &[(RelPath, Node<B>)], path: &[Name]) -> bool
     requires { is_sorted trees.path_cmp places.now ≡ true }
-    ensures { result ≡ true → length places.now ≡ prefix_len (trees.is_after path.now) places.now }
+    ensures { result ≡ true → length places.now ≡ prefix_len (Ranks.is_after path.now) places.now }
 {
     match places.len().checked_sub(1) {
         Some(last) => compare_paths(path, places[last].0.items()) == Ordering::Greater,
@@ -90,7 +91,7 @@ fn comes_last<B>(places: &[(RelPath, Node<B>)], path: &[Name]) -> bool
 /// How many places at the front stand before a path: all of them, where places come in order.
 pub fn rank_of<B>(places: &[(RelPath, Node<B>)], path: &[Name]) -> usize
     requires { is_sorted trees.path_cmp places.now ≡ true }
-    ensures rank { result ≡ prefix_len (trees.is_after path.now) places.now }
+    ensures rank { result ≡ prefix_len (Ranks.is_after path.now) places.now }
     ensures within { result ≤ length places.now }
 {
     if comes_last(places, path) {
@@ -102,7 +103,7 @@ pub fn rank_of<B>(places: &[(RelPath, Node<B>)], path: &[Name]) -> usize
 
 /// Whether the place with this number is at a path.
 fn is_place_at<B>(places: &[(RelPath, Node<B>)], rank: usize, path: &[Name]) -> bool
-    ensures { result ≡ trees.is_place_at path.now (slice_get places.now rank) }
+    ensures { result ≡ Ranks.is_place_at path.now (slice_get places.now rank) }
 {
     match places.get(rank) {
         Some(place) => compare_paths(path, place.0.items()) == Ordering::Equal,

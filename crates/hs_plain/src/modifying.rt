@@ -6,7 +6,7 @@ ghost use Rattle.hs_plain.specs.Asked;
 ghost use Rattle.hs_plain.specs.Tree;
 ghost use Rattle.hs_plain.specs.State as states;
 ghost use Rattle.hs_plain.specs.Modifying;
-ghost use Rattle.hs_plain.specs.Faults.{IsFaultOf};
+ghost use Rattle.hs_plain.specs.inside.Faults.{IsFaultOf};
 
 use crate::resolve::{AskFault, file_in};
 use crate::snapshots::{holds_snapshots, holds_snapshottable, is_in_snapshottable};

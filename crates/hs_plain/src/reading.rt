@@ -5,7 +5,7 @@ ghost use Rattle.std.specs.Option.{option_copied, option_to_list};
 ghost use Rattle.hs_plain.specs.Tree as trees;
 ghost use Rattle.hs_plain.specs.Reading;
 ghost use Rattle.hs_plain.specs.Files.{plain_files};
-ghost use Rattle.hs_plain.specs.Faults.{IsFaultOf};
+ghost use Rattle.hs_plain.specs.inside.Faults.{IsFaultOf};
 
 use crate::files::FileBody;
 use crate::modifying::{read_path, refuse_if};
@@ -275,8 +275,8 @@ pub fn snaps<B>(alloc: Global, state: &State<B>, path: &PathText) -> Result<Repl
     })
 }
 
-/// Adds a directory as it is shown, where it is snapshottable. No directory has more snapshots than a `u32` counts, since
-/// memory runs out before.
+/// Adds a directory as it is shown, where it is snapshottable. With more snapshots than a `u32` counts, which a directory of a
+/// valid state never has, the answer is that memory ran out.
 fn push_directory<B>(
     list: &mut Vec<DirItem>,
     alloc: Global,

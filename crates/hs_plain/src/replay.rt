@@ -6,7 +6,7 @@ ghost use Rattle.hs_plain.specs.State as states;
 ghost use Rattle.hs_plain.specs.Answer;
 ghost use Rattle.hs_plain.specs.Files.{plain_files};
 ghost use Rattle.hs_plain.specs.Change;
-ghost use Rattle.hs_plain.specs.Faults;
+ghost use Rattle.hs_plain.specs.inside.Faults;
 ghost use Rattle.hs_plain.specs.Replay.{plain_after};
 
 use crate::answer::is_modifying;

@@ -1,7 +1,7 @@
 //! Where a path leads, and what stands there.
 ghost use Rattle.std.specs.Prelude.{◌≡◌, ◌++◌, ◌≤◌, length, Ok, Err, IfOk, OnOk, OnErr, MatchResult};
 ghost use Rattle.std.specs.List.{list_any, prefix_len};
-ghost use Rattle.hs_plain.specs.Faults.{IsFaultOf};
+ghost use Rattle.hs_plain.specs.inside.Faults.{IsFaultOf};
 ghost use Rattle.hs_plain.specs.Tree;
 ghost use Rattle.hs_plain.specs.State as states;
 ghost use Rattle.hs_plain.specs.Modifying;

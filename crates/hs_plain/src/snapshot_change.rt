@@ -3,7 +3,7 @@ ghost use Rattle.std.specs.Prelude.{◌≡◌, ◌+◌, ◌<◌, ◌≤◌, ◌^
 ghost use Rattle.std.specs.List.{zip};
 ghost use Rattle.hs_types.specs.Names.{is_name};
 ghost use Rattle.hs_types.specs.declared.call.Call.TheVariants as calls;
-ghost use Rattle.hs_plain.specs.Faults.{IsFaultOf};
+ghost use Rattle.hs_plain.specs.inside.Faults.{IsFaultOf};
 ghost use Rattle.hs_plain.specs.Files.{plain_files};
 ghost use Rattle.hs_plain.specs.Snapshotting;
 ghost use Rattle.hs_plain.specs.Answer;

@@ -2,7 +2,7 @@
 ghost use Rattle.std.specs.Prelude.{◌≡◌, Ok, Err, MatchResult, OnOk, true};
 ghost use Rattle.hs_types.specs.Names.{is_name};
 ghost use Rattle.hs_plain.specs.Snapshotting;
-ghost use Rattle.hs_plain.specs.Faults.{IsFaultOf};
+ghost use Rattle.hs_plain.specs.inside.Faults.{IsFaultOf};
 
 use crate::modifying::{live_path, refuse_if};
 use crate::resolve::{AskFault, is_snapshottable};

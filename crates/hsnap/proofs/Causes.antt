@@ -1,5 +1,5 @@
 -- What each cause rules out, where a source tells its bytes and nothing fails.
-use Rattle.std.proofs.Common.{◌≡◌, ℕ, ◌+◌, ◌^◌, ◌<◌, ◌≤◌, Bool, true, List, [], ◌++◌, length, Option, None, Some, Result, Ok, Err, refl, ap, sym, subst, ◌∙◌, append-nil, length-append, arith}
+use Rattle.std.proofs.Common.{◌≡◌, ℕ, ◌≤◌, true, List, ◌++◌, length, Option, None, Some, Result, Ok, Err, refl, ap, sym, subst, ◌∙◌, append-nil, length-append, arith}
 use Rattle.hs_types.specs.Faults.{Rose}
 use Rattle.hs_io.specs.Bytes.{Gives, IsEnded}
 use Rattle.namenode_write.specs.Counted.{RisesAtMost}

@@ -1,5 +1,5 @@
 -- What holds of a run whatever its status says, and of each status.
-use Rattle.std.proofs.Common.{◌≡◌, ◌⊎◌, inl, inr, ℕ, Bool, List, Option, Some, refl, ap, sym, subst}
+use Rattle.std.proofs.Common.{◌≡◌, ◌⊎◌, inl, inr, ℕ, Bool, List, Option, Some, refl, ap, subst}
 use Rattle.hs_io.specs.Bytes.{TakesSome, GivesWithin, GivesPast}
 use Rattle.hs_io.proofs.BytesLemmas.{past_not_within}
 use Rattle.script_text.specs.declared.script.Script.{Script}
@@ -9,7 +9,7 @@ use Rattle.run_output.specs.declared.ran.Status.{Status}
 use Rattle.run_output.specs.declared.ran.Status.TheVariants as status
 use Rattle.run_output.specs.Run.{IsRunInTurn}
 use Rattle.run_output.specs.Text.{text_of}
-use Rattle.hsnap.specs.Serial.{most_bytes, IsScriptRead, IsRunOfInput, IsCutShort, not_run}
+use Rattle.hsnap.specs.Serial.{most_bytes, IsScriptRead, IsCutShort, not_run}
 use Rattle.hsnap.specs.ReadStatus.{IsReadCause}
 
 -- a run is one whatever its status says

@@ -19,7 +19,8 @@ use Rattle.hs_plain.specs.declared.state.Body.{Body}
 use Rattle.hs_plain.specs.declared.state.Body.TheVariants.{File, Dir}
 use Rattle.hs_plain.specs.declared.state.State.{State}
 use Rattle.hs_plain.specs.declared.state.FileBlocks.{FileBlocks}
-use Rattle.hs_plain.specs.Tree.{Tree, path_cmp, node_at, is_after, is_place_at, is_dir, is_dir_body}
+use Rattle.hs_plain.specs.Tree.{Tree, path_cmp, node_at, is_dir, is_dir_body}
+use Rattle.hs_plain.specs.inside.Ranks.{is_after, is_place_at}
 use Rattle.hs_plain.specs.Change.{refilled, with_file, if_asked, appended, change}
 use Rattle.hs_plain.specs.Viewed.{viewed_body, viewed_place, viewed_tree, bytes_in, HasBytes}
 use Rattle.hs_plain.proofs.ValidShapes.{none_some, same_some}

@@ -1,8 +1,7 @@
 -- A call that is served leaves a state in which nothing is snapshottable as such a state.
-use Rattle.std.proofs.Common.{◌≡◌, ℕ, ◌+◌, true, List, [], refl, sym, ap, ◌∙◌}
+use Rattle.std.proofs.Common.{◌≡◌, true, List, [], ap}
 use Rattle.std.specs.Prelude.{nat_le}
 use Rattle.std.specs.List.{list_all}
-use Rattle.hs_types.specs.declared.ids.InodeId.{InodeId}
 use Rattle.hs_types.specs.declared.call.Call.{Call}
 use Rattle.hs_types.specs.declared.call.Call.TheVariants as calls
 use Rattle.hs_plain.specs.declared.state.Member.{Member}
@@ -49,6 +48,7 @@ module _ {B : Type 0} where
     sorted = valid.sorted;
     root = valid.root;
     parents = valid.parents;
+    names = valid.names;
     each_once = valid.each_once;
     one_kind = valid.one_kind;
     ids_below = valid.ids_below;
@@ -59,6 +59,7 @@ module _ {B : Type 0} where
     member_roots = valid.member_roots;
     copies_sorted = valid.copies_sorted;
     copies_parents = valid.copies_parents;
+    copies_names = valid.copies_names;
     copies_each_once = valid.copies_each_once;
     copies_root_on_top = valid.copies_root_on_top;
     snapshots_rise = valid.snapshots_rise;
@@ -66,6 +67,7 @@ module _ {B : Type 0} where
     next_snapshot_above = valid.next_snapshot_above;
     ticks_rise = valid.ticks_rise;
     ticks_within = ap (λ (members : List (Member B)). list_all (λ member. nat_le member.tick state.tick) members) none;
+    member_names = valid.member_names;
     different_names = valid.different_names;
     at_most = valid.at_most;
   }

@@ -20,7 +20,7 @@ use Rattle.hs_plain.specs.declared.resolve.AskFault.TheVariants.{Refused, NoMemo
 use Rattle.block_store.specs.declared.store.StoreErr.{StoreErr}
 use Rattle.block_store.specs.declared.store.StoreErr.TheVariants as errors
 use Rattle.hs_plain.specs.Asked.{Asked, ◌>>=◌}
-use Rattle.hs_plain.specs.Faults.{IsFaultOf}
+use Rattle.hs_plain.specs.inside.Faults.{IsFaultOf}
 use Rattle.hs_plain.specs.Files.{Files, plain_files, block_files}
 use Rattle.hs_plain.specs.Answer.{asked, replied, reply_to, answer_by, answer, is_modifying, uses_store, is_ok_reply, blanked, claimed}
 use Rattle.hs_plain.specs.Reading.{found_file, next_file, page_at}

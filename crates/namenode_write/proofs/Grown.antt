@@ -1,5 +1,5 @@
 -- A namenode stays consistent as its journal grows.
-use Rattle.std.proofs.Common.{◌≡◌, ℕ, ◌+◌, ◌-◌, ◌^◌, ◌<◌, ◌≤◌, Some, None, Option, Ok, Err, Result, slice_get, is_some, Bool, true, false, not, cond, if◌then◌else◌, ◌&&◌, ◌||◌, ◌==◌, List, [], ◌∷◌, ◌++◌, map, take, length, refl, ap, sym, subst, ◌∙◌, length-append, arith}
+use Rattle.std.proofs.Common.{◌≡◌, ℕ, ◌+◌, ◌-◌, ◌^◌, ◌<◌, ◌≤◌, Some, None, Option, Ok, Err, Result, slice_get, is_some, Bool, true, false, cond, if◌then◌else◌, ◌&&◌, ◌||◌, ◌==◌, List, [], ◌∷◌, ◌++◌, map, take, length, refl, ap, sym, subst, ◌∙◌, length-append, arith}
 use Rattle.std.specs.Prelude.{IfOk, IfErr, OnErr, IsErrOf, min}
 use Rattle.std.proofs.lemmas.List.Sums.{count_by-le-length, sum_by-append}
 use Rattle.std.proofs.Math.Seq.{take-append_seam, take-length}
@@ -27,7 +27,7 @@ use Rattle.hs_plain.specs.declared.state.Node.{Node}
 use Rattle.hs_plain.specs.declared.state.Body.{Body}
 use Rattle.hs_plain.specs.declared.state.Body.TheVariants.{File, Dir}
 use Rattle.hs_plain.specs.Files.{Files, plain_files}
-use Rattle.hs_plain.specs.Faults.{told_reply}
+use Rattle.hs_plain.specs.inside.Faults.{told_reply}
 use Rattle.hs_plain.specs.Answer.{answer, blanked, claimed, is_modifying, is_ok_reply, uses_store, Origin, machine, store, limit, memory, origin_of, is_machine, is_store, is_limit, is_store_fault, is_plain_reply, is_journal_full}
 use Rattle.hs_plain.specs.Change.{changed_if, is_accepted, ticked, after}
 use Rattle.hs_plain.specs.Replay.{replay_from, proper_from, fits_kind, may_follow, plain_after, is_proper}

@@ -1,7 +1,6 @@
 -- A changed state with its blocks is as a namenode keeps it.
-use Rattle.std.proofs.Common.{◌≡◌, ℕ, ◌+◌, Bool, true, false, List, [], ◌∷◌, ◌++◌, Option, Some, None, Result, Ok, OnOk, OnErr, refl, sym, ap, subst, ◌∙◌, arith}
+use Rattle.std.proofs.Common.{◌≡◌, ℕ, ◌+◌, Bool, true, false, List, ◌++◌, Option, Some, None, Result, Ok, OnOk, OnErr, refl, sym, ap, subst, ◌∙◌, arith}
 use Rattle.std.specs.Prelude.{nat_lt, is_some}
-use Rattle.std.specs.Option.{option_map}
 use Rattle.std.specs.FinMap.Entries.{put, is_sorted}
 use Rattle.hs_types.specs.Names.{Names}
 use Rattle.hs_types.specs.Blocks.{BlockMap, find}
@@ -16,7 +15,7 @@ use Rattle.hs_plain.specs.declared.state.Body.TheVariants.{File, Dir}
 use Rattle.hs_plain.specs.declared.state.State.{State}
 use Rattle.hs_plain.specs.declared.state.FileBlocks.{FileBlocks}
 use Rattle.hs_plain.specs.Asked.{refuse_if}
-use Rattle.hs_plain.specs.Files.{Files, block_files}
+use Rattle.hs_plain.specs.Files.{block_files}
 use Rattle.hs_plain.specs.State.{new_dir}
 use Rattle.hs_plain.specs.Tree.{Tree, path_cmp, node_at, parent_of, walks_above}
 use Rattle.hs_plain.specs.Modifying.{live_path, mkdir_at, create_at, delete_at, rename_at, set_mode_at}

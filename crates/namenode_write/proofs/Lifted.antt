@@ -18,7 +18,7 @@ use Rattle.hs_plain.specs.Snapshotting.{allow_at, disallow_at, snap_at, snap_del
 use Rattle.hs_plain.specs.Served.{is_served}
 use Rattle.hs_plain.specs.Answer.{made_reply, snap_made_reply, replied, asked, reply_to, is_modifying, uses_store, is_exclusive, is_ok_reply, claimed}
 use Rattle.hs_plain.specs.Change.{change, changed_if}
-use Rattle.hs_plain.specs.Faults.{IsFaultOf}
+use Rattle.hs_plain.specs.inside.Faults.{IsFaultOf}
 use Rattle.hs_plain.specs.Viewed.{StandsFor, HasBytes}
 use Rattle.hs_plain.proofs.Stands.{answer_stands, change_stands, change_told}
 use Rattle.block_store.specs.Changes.{Changes}

@@ -4,7 +4,7 @@ ghost use Rattle.hs_types.specs.declared.call.Call.TheVariants as calls;
 ghost use Rattle.hs_types.specs.declared.refusal.Refusal.TheVariants.{StoreFault};
 ghost use Rattle.hs_plain.specs.declared.state.State.{State};
 ghost use Rattle.hs_plain.specs.declared.resolve.AskFault.TheVariants as faults;
-ghost use Rattle.hs_plain.specs.Faults.{IsFaultOf};
+ghost use Rattle.hs_plain.specs.inside.Faults.{IsFaultOf};
 ghost use Rattle.hs_plain.specs.Files.{block_files};
 ghost use Rattle.hs_plain.specs.Answer.{asked, is_exclusive, uses_store};
 ghost use Rattle.hs_plain.specs.Served.{is_served};

@@ -7,7 +7,7 @@ use Rattle.hs_types.specs.declared.ids.Side.TheVariants.{Source, Target}
 use Rattle.hs_types.specs.declared.journal.Entry.{Entry}
 use Rattle.hs_types.specs.declared.reply.Answered.{Answered}
 use Rattle.hs_types.specs.Limits.{journal_limit}
-use Rattle.hs_plain.specs.Legal.{Said, IsLegalCall}
+use Rattle.hs_plain.specs.Legal.{Said, IsLegalCall, places_of}
 use Rattle.hs_plain.specs.Replay.{plain_after, is_proper}
 use Rattle.hs_plain.specs.Lines.{tree_lines}
 use Rattle.script_text.specs.declared.script.ScriptLine.{ScriptLine}
@@ -20,7 +20,7 @@ use Rattle.run_output.specs.declared.ran.LogItem.{LogItem}
 use Rattle.run_output.specs.declared.ran.LogWhat.{LogWhat}
 use Rattle.run_output.specs.declared.ran.LogWhat.TheVariants.{Replies, NoCursor}
 use Rattle.run_output.specs.Calls.{none_kept, side_of}
-use Rattle.run_output.specs.Steps.{Sections, LineRun, AreCalls, kept_after, Made, Step, steps_to, in_order, said_in, made_in, are_counted, rises, in_turn, reached, all_reached, places_of, left_at}
+use Rattle.run_output.specs.Steps.{Sections, LineRun, AreCalls, kept_after, Made, Step, steps_to, in_order, said_in, made_in, are_counted, rises, in_turn, reached, all_reached, left_at}
 
 -- ---- lines and logs
 

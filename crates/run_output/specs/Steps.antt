@@ -1,9 +1,8 @@
 -- What happens on each namenode in a run, step by step.
-use Rattle.std.specs.Prelude.{◌≡◌, ℕ, ◌+◌, ◌-◌, ◌^◌, min, max, Bool, true, false, ◌&&◌, ◌||◌, ◌==◌, nat_le, nat_lt, if◌then◌else◌, List, [], ◌∷◌, ◌++◌, map, Option, Some, None, ⊤}
+use Rattle.std.specs.Prelude.{ℕ, ◌+◌, ◌-◌, ◌^◌, min, max, Bool, true, false, ◌&&◌, ◌==◌, nat_le, if◌then◌else◌, List, [], ◌∷◌, ◌++◌, map, Option, Some, None, ⊤}
 use Rattle.std.specs.List.{flat_map}
 use Rattle.hs_types.specs.declared.ids.Side.{Side}
-use Rattle.hs_types.specs.declared.journal.Entry.{Entry}
-use Rattle.hs_plain.specs.Legal.{Said, leaves_entry, reach_of}
+use Rattle.hs_plain.specs.Legal.{Said, reach_of, place_left, number_rises}
 use Rattle.script_text.specs.declared.script.ScriptLine.{ScriptLine}
 use Rattle.run_output.specs.Calls.{Kept, same_side, AreOf, kept_by, side_of}
 
@@ -71,11 +70,7 @@ made_in (made entry) = Some entry
 
 -- ---- numbers
 
--- the numbers of entries rise; the last number of a u64 is shared
-abbrev pub number_rises : ℕ → ℕ → Bool
-number_rises before seq = nat_lt before seq || (before == 2 ^ 64 - 1 && seq == 2 ^ 64 - 1)
-
--- the calls are counted one by one, to the last number of a u64
+-- the calls are counted one by one, to the last number of a u64; the numbers of entries that syncs make rise
 abbrev pub are_counted : ℕ → List Step → Bool
 are_counted before [] = true
 are_counted before (printed said ∷ more) = said.seq == min (before + 1) (2 ^ 64 - 1) && are_counted said.seq more
@@ -112,14 +107,9 @@ abbrev pub all_reached : ℕ → List (List Step) → ℕ
 all_reached from [] = from
 all_reached from (client ∷ clients) = max (reached from client) (all_reached from clients)
 
--- ---- whose entries a journal has
-
--- where a caller's entries stand, counted from an index
-abbrev pub places_of : ℕ → ℕ → List Entry → List ℕ
-places_of c index [] = []
-places_of c index (entry ∷ entries) = if entry.caller.0 == c then index ∷ places_of c (index + 1) entries else places_of c (index + 1) entries
+-- ---- entries
 
 -- where the entry stands that a step left for its caller, if it left one
 abbrev pub left_at : Step → Option ℕ
-left_at (printed said) = if leaves_entry said.call said.told.reply then Some said.told.position else None
+left_at (printed said) = place_left said
 left_at (made entry) = Some entry.position

@@ -1,5 +1,5 @@
 -- A call that changes nothing and uses no store is answered legally at the end of a journal.
-use Rattle.std.proofs.Common.{◌≡◌, ◌≢◌, ℕ, Bool, true, false, not, ◌&&◌, ◌||◌, ◌==◌, cond, Some, None, List, ◌++◌, length, take, refl, ap, sym, ◌∙◌, append-nil, arith}
+use Rattle.std.proofs.Common.{◌≡◌, ◌≢◌, ℕ, Bool, true, false, not, ◌&&◌, ◌||◌, cond, Some, None, List, ◌++◌, length, take, refl, ap, sym, ◌∙◌, append-nil, arith}
 use Rattle.std.specs.Option.{option_to_list}
 use Rattle.std.proofs.lemmas.List.{take_all}
 use Rattle.hs_types.specs.declared.call.Call.{Call}

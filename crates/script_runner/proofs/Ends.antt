@@ -1,13 +1,11 @@
 -- What comes behind an answer: no page of 1,000 entries has a cursor in a small state, and a read goes on at a greater offset.
-use Rattle.std.proofs.Common.{◌≡◌, ℕ, suc, ◌+◌, ◌-◌, ◌^◌, ◌<◌, ◌≤◌, nat_le, Bool, true, false, cond, ◌==◌, Option, Some, None, Ok, Err, List, [], ◌∷◌, length, take, refl, ap, sym, ◌∙◌, subst, arith}
-use Rattle.std.specs.Prelude.{is_some}
+use Rattle.std.proofs.Common.{◌≡◌, ℕ, suc, ◌+◌, ◌-◌, ◌^◌, ◌<◌, ◌≤◌, nat_le, Bool, true, false, cond, ◌==◌, Option, Some, None, Ok, Err, List, [], ◌∷◌, length, take, refl, ap, sym, subst, arith}
 use Rattle.std.specs.List.{cons_option, AllByRecursion}
 use Rattle.std.proofs.lemmas.Bool.Decides.{nat_tests}
 use Rattle.hs_types.specs.Names.{Names}
 use Rattle.hs_types.specs.Paths.{path_of}
 use Rattle.hs_types.specs.declared.ids.InodeId.{InodeId}
 use Rattle.hs_types.specs.declared.ids.SnapId.{SnapId}
-use Rattle.hs_types.specs.declared.path.Path.{Path}
 use Rattle.hs_types.specs.declared.refusal.Refusal.{Refusal}
 use Rattle.hs_types.specs.declared.refusal.Refusal.TheVariants.{NotFound, NotDir}
 use Rattle.hs_types.specs.declared.call.Place.{Place}
@@ -15,10 +13,9 @@ use Rattle.hs_types.specs.declared.call.Place.TheVariants as places
 use Rattle.hs_types.specs.declared.reply.Item.{Item}
 use Rattle.hs_types.specs.declared.call.Call.{Call}
 use Rattle.hs_types.specs.declared.call.Call.TheVariants as calls
-use Rattle.hs_types.specs.declared.call.ListCursor.{ListCursor}
 use Rattle.hs_types.specs.declared.call.ReadCursor.{ReadCursor}
 use Rattle.hs_types.specs.declared.reply.Reply.{Reply}
-use Rattle.hs_types.specs.declared.reply.Reply.TheVariants.{Made, Done, SnapMade, Bytes, Stat, Page, Snaps, Dirs, Report, Refused, NoMemory}
+use Rattle.hs_types.specs.declared.reply.Reply.TheVariants.{Done, Stat, Refused}
 use Rattle.hs_plain.specs.declared.state.Member.{Member}
 use Rattle.hs_plain.specs.declared.state.Node.{Node}
 use Rattle.hs_plain.specs.declared.state.State.{State}

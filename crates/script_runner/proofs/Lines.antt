@@ -1,18 +1,17 @@
 -- The lines of a section, one after the other.
-use Rattle.std.proofs.Common.{◌≡◌, ℕ, suc, ◌+◌, ◌<◌, ◌≤◌, Bool, true, false, cond, ◌&&◌, Option, Some, None, List, [], ◌∷◌, ◌++◌, map, length, refl, ap, sym, ◌∙◌, subst, length-append, append_assoc, append-nil, arith}
+use Rattle.std.proofs.Common.{◌≡◌, ℕ, ◌+◌, ◌<◌, ◌≤◌, Bool, true, ◌&&◌, Option, Some, None, List, [], ◌∷◌, ◌++◌, map, length, refl, ap, sym, ◌∙◌, subst, append_assoc, arith}
 use Rattle.std.specs.Option.{option_to_list}
-use Rattle.std.specs.List.{list_all, flat_map}
+use Rattle.std.specs.List.{list_all}
 use Rattle.std.proofs.lemmas.List.{map-append}
 use Rattle.std.proofs.lemmas.Grind.{flat_map-append}
 use Rattle.hs_types.specs.declared.journal.Entry.{Entry}
-use Rattle.hs_plain.specs.Legal.{Said}
 use Rattle.script_text.specs.declared.script.ScriptLine.{ScriptLine}
 use Rattle.script_text.specs.declared.script.Section.{Section}
 use Rattle.script_text.specs.Today.{is_line_today}
 use Rattle.run_output.specs.declared.ran.LogItem.{LogItem}
-use Rattle.run_output.specs.Calls.{Kept, AreOf, kept_by, side_of}
+use Rattle.run_output.specs.Calls.{Kept, kept_by, side_of}
 use Rattle.run_output.specs.Steps.{LineRun, AreCalls}
-use Rattle.run_output.specs.Run.{is_section, are_in, items_of, logged}
+use Rattle.run_output.specs.Run.{is_section, items_of, logged}
 use Rattle.script_runner.specs.InTurn.{World, IsSideRun, AreLinesRun}
 use Rattle.script_runner.specs.Pages.{AreCommands}
 use Rattle.script_runner.specs.Sections.{IsLineRun, IsSectionRun, is_past, IsFront, HasRoom}

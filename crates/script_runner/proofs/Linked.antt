@@ -1,5 +1,5 @@
 -- What links promise makes one legal history.
-use Rattle.std.proofs.Common.{◌≡◌, ℕ, zero, suc, ◌+◌, ◌<◌, ◌≤◌, nat_lt, nat_le, Bool, true, false, cond, ◌&&◌, ◌||◌, ◌==◌, Option, Some, None, List, [], ◌∷◌, ◌++◌, length, slice_get, refl, ap, sym, ◌∙◌, subst, length-append, append_assoc, append-nil, arith}
+use Rattle.std.proofs.Common.{◌≡◌, ℕ, zero, suc, ◌+◌, ◌≤◌, nat_le, Bool, true, false, cond, ◌&&◌, ◌==◌, Some, None, List, [], ◌∷◌, ◌++◌, length, slice_get, refl, ap, sym, ◌∙◌, subst, length-append, append_assoc, append-nil, arith}
 use Rattle.std.specs.Option.{option_to_list}
 use Rattle.std.specs.List.{list_all, filter, filter_map, cons_option, AllByRecursion}
 use Rattle.std.proofs.lemmas.Bool.Decides.{nat_tests}
@@ -8,11 +8,10 @@ use Rattle.std.proofs.lemmas.List.Elements.{filter-append}
 use Rattle.hs_types.specs.declared.journal.Entry.{Entry}
 use Rattle.hs_plain.specs.Answer.{answer, claimed, is_ok_reply}
 use Rattle.hs_plain.specs.Replay.{plain_after}
-use Rattle.hs_plain.specs.Legal.{Said, entry_of, leaves_entry, reach_of}
-use Rattle.run_output.specs.Steps.{Sections, Made, Step, printed, made, said_in, made_in, are_counted, rises, reached, all_reached, places_of, left_at}
-use Rattle.run_output.specs.Run.{caller, IsLegal, IsMade, AreLegal, AreClients, IsSide}
+use Rattle.hs_plain.specs.Legal.{Said, entry_of, leaves_entry, reach_of, places_of}
+use Rattle.run_output.specs.Steps.{Sections, Made, Step, printed, made, said_in, made_in, are_counted, rises, reached, all_reached, left_at}
+use Rattle.run_output.specs.Run.{caller, IsLegal, IsMade, AreClients, IsSide}
 use Rattle.script_runner.specs.Links.{is_of, own, IsMadeBy, IsCalled, AreLinked, last_number, AreClientsMet, AreMet}
-use Rattle.script_runner.proofs.Both.{both_first, both_second}
 
 -- ---- legal stays legal as the journal grows
 

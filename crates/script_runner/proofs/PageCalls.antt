@@ -1,5 +1,5 @@
 -- Calls for pages, one after the other.
-use Rattle.std.proofs.Common.{◌≡◌, ℕ, ◌+◌, ◌^◌, ◌<◌, ◌≤◌, ◌-◌, min, Bool, true, false, cond, ◌||◌, ◌&&◌, ◌==◌, Option, Some, None, List, [], ◌∷◌, ◌++◌, map, length, take, refl, ap, sym, ◌∙◌, subst, length-append, arith}
+use Rattle.std.proofs.Common.{◌≡◌, ℕ, ◌+◌, ◌^◌, ◌<◌, ◌≤◌, ◌-◌, min, Bool, true, false, cond, ◌||◌, ◌&&◌, Option, Some, None, List, [], ◌∷◌, ◌++◌, length, take, refl, ap, sym, ◌∙◌, subst, length-append, arith}
 use Rattle.std.proofs.lemmas.List.{map-append}
 use Rattle.std.proofs.Math.Seq.{take-append_seam}
 use Rattle.hs_types.specs.declared.call.Call.{Call}
@@ -9,7 +9,7 @@ use Rattle.hs_types.specs.declared.reply.Reply.{Reply}
 use Rattle.hs_types.specs.declared.reply.Reply.TheVariants.{Made, Done, SnapMade, Bytes, Stat, Page, Snaps, Dirs, Report, Refused, NoMemory}
 use Rattle.hs_plain.specs.Answer.{answer, claimed, blanked, is_modifying, is_ok_reply, is_store_fault, is_plain_reply}
 use Rattle.hs_plain.specs.Replay.{plain_after}
-use Rattle.hs_plain.specs.Legal.{Said, leaves_entry, reach_of}
+use Rattle.hs_plain.specs.Legal.{Said, leaves_entry}
 use Rattle.run_output.specs.Calls.{behind, AreAllPages, IsOne}
 use Rattle.script_runner.specs.Links.{own}
 use Rattle.script_runner.specs.InTurn.{IsNext, AreNext}

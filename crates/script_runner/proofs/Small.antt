@@ -1,5 +1,5 @@
 -- A journal of at most 999 entries leads to a state of at most 1,000 nodes and snapshots, with copied trees that are no larger.
-use Rattle.std.proofs.Common.{◌≡◌, ℕ, suc, ◌+◌, ◌≤◌, Bool, true, false, cond, not, Ok, Err, List, [], ◌∷◌, ◌++◌, map, length, drop, refl, ap, subst, length-append, arith}
+use Rattle.std.proofs.Common.{◌≡◌, ℕ, suc, ◌+◌, ◌≤◌, Bool, true, false, cond, not, Ok, Err, List, [], ◌∷◌, ◌++◌, map, length, drop, subst, length-append, arith}
 use Rattle.std.specs.declared.cmp.Ordering.{Ordering}
 use Rattle.std.specs.declared.cmp.Ordering.TheVariants.{Less, Equal, Greater}
 use Rattle.std.specs.FinMap.Entries.{put, by_order}
@@ -21,7 +21,7 @@ use Rattle.hs_plain.specs.Tree.{Tree, path_cmp, parent_of, is_under, subtree}
 use Rattle.hs_plain.specs.State.{start, new_dir, is_snapshottable}
 use Rattle.hs_plain.specs.Snapshotting.{allow_at, disallow_at, snap_at, snap_del_at, snap_ren_at}
 use Rattle.hs_plain.specs.Modifying.{mkdir_at, create_at, delete_at, rename_at, set_mode_at, append_at}
-use Rattle.hs_plain.specs.Change.{restamp, stamped, remode, without, repath, put_all, moved, new_file, with_node, made_dir, made_file, still_in, refilled, appended, removed, renamed, with_mode, allowed, disallowed, new_member, snapped, is_snapshot, unsnapped, rename_member, resnapped, if_asked, change, takes_effect, changed, ticked, after}
+use Rattle.hs_plain.specs.Change.{restamp, stamped, remode, without, repath, put_all, moved, new_file, with_node, made_dir, made_file, refilled, appended, removed, renamed, with_mode, allowed, disallowed, new_member, snapped, is_snapshot, unsnapped, rename_member, resnapped, if_asked, change, takes_effect, changed, ticked, after}
 use Rattle.hs_plain.specs.Replay.{replay_from, plain_after}
 
 -- copied trees with at most so many nodes

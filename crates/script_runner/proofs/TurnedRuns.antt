@@ -8,10 +8,10 @@ use Rattle.hs_types.specs.declared.ids.Side.{Side}
 use Rattle.hs_types.specs.declared.ids.Side.TheVariants.{Source, Target}
 use Rattle.hs_types.specs.declared.journal.Entry.{Entry}
 use Rattle.hs_types.specs.Limits.{journal_limit}
-use Rattle.hs_plain.specs.Legal.{Said, entry_of, leaves_entry, reach_of}
+use Rattle.hs_plain.specs.Legal.{Said, entry_of, leaves_entry, reach_of, places_of}
 use Rattle.hs_plain.specs.Replay.{is_proper}
 use Rattle.run_output.specs.Calls.{side_of}
-use Rattle.run_output.specs.Steps.{Sections, LineRun, Step, printed, made, steps_of, steps_on, goes_to, steps_to, place_of, known_by, reached, in_turn, places_of, in_order}
+use Rattle.run_output.specs.Steps.{Sections, LineRun, Step, printed, made, steps_of, steps_on, goes_to, steps_to, place_of, known_by, reached, in_turn, in_order}
 use Rattle.run_output.specs.Run.{caller, IsSide, IsInTurn}
 use Rattle.script_runner.specs.Links.{is_of, own, AreLinked, last_number, AreClientsMet, AreMet}
 use Rattle.script_runner.specs.InTurn.{IsNext, AreNext, World, IsSideRun, AreLinesRun, uncounted, AreClientsRun, fresh, IsSerial}

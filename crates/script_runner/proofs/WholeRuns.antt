@@ -1,22 +1,20 @@
 -- All sections of a script, run one after the other, are a run of it in turn.
-use Rattle.std.proofs.Common.{◌≡◌, ℕ, ◌+◌, ◌≤◌, Bool, true, List, [], ◌∷◌, ◌++◌, map, length, refl, ap, sym, ◌∙◌, subst, append_assoc, append-nil, arith}
+use Rattle.std.proofs.Common.{◌≡◌, ℕ, ◌≤◌, Bool, true, List, [], ◌∷◌, ◌++◌, map, length, refl, ap, sym, ◌∙◌, subst, append-nil, arith}
 use Rattle.std.specs.List.{flat_map, AllByRecursion}
 use Rattle.std.proofs.lemmas.List.{map-append}
-use Rattle.hs_types.specs.declared.ids.Side.TheVariants.{Source, Target}
 use Rattle.hs_types.specs.declared.ids.CallerId.{CallerId}
 use Rattle.hs_types.specs.declared.journal.Entry.{Entry}
 use Rattle.script_runner.specs.declared.client.Client.{Client}
 use Rattle.hs_plain.specs.Replay.{is_proper}
 use Rattle.script_text.specs.declared.script.ScriptLine.{ScriptLine}
 use Rattle.script_text.specs.declared.script.Section.TheVariants as sections
-use Rattle.run_output.specs.declared.ran.Ran.{Ran}
 use Rattle.run_output.specs.declared.ran.End.{End}
 use Rattle.run_output.specs.declared.ran.LogItem.{LogItem}
 use Rattle.run_output.specs.declared.ran.ClientLog.{ClientLog}
 use Rattle.run_output.specs.declared.ran.Status.TheVariants.{Ok as Ok_status}
 use Rattle.run_output.specs.Calls.{Kept, none_kept}
-use Rattle.run_output.specs.Steps.{Sections, LineRun, AreCalls, kept_after, in_order}
-use Rattle.run_output.specs.Run.{items_of, client_logs, logs_of, IsEndOf, IsRunInTurn}
+use Rattle.run_output.specs.Steps.{Sections, LineRun, AreCalls, kept_after}
+use Rattle.run_output.specs.Run.{items_of, client_logs, IsEndOf, IsRunInTurn}
 use Rattle.script_runner.specs.InTurn.{World, AreLinesRun, AreClientsRun, fresh}
 use Rattle.script_runner.specs.Sections.{world, IsSectionRun, unnumbered, AreClientsTo, AreSectionsRun}
 use Rattle.script_runner.proofs.TurnedRuns.{serial_source, serial_target, serial_turn}

@@ -1,11 +1,11 @@
 -- What only private contracts and proofs use: commands that were run one after the other, on two namenodes.
-use Rattle.std.specs.Prelude.{◌≡◌, ℕ, ◌+◌, ◌-◌, ◌^◌, min, Bool, true, List, [], ◌∷◌, ◌++◌, length, Option, Some, None}
+use Rattle.std.specs.Prelude.{◌≡◌, ℕ, ◌+◌, ◌-◌, ◌^◌, min, Bool, List, [], ◌∷◌, ◌++◌, length, Option, Some, None}
 use Rattle.hs_types.specs.declared.ids.Side.{Side}
 use Rattle.hs_types.specs.declared.ids.Side.TheVariants.{Source, Target}
 use Rattle.hs_types.specs.declared.journal.Entry.{Entry}
 use Rattle.hs_plain.specs.Legal.{Said}
 use Rattle.run_output.specs.Calls.{side_of}
-use Rattle.run_output.specs.Steps.{Sections, LineRun, Made}
+use Rattle.run_output.specs.Steps.{Sections, LineRun}
 use Rattle.run_output.specs.Run.{IsLegal}
 use Rattle.script_runner.specs.Links.{own}
 

@@ -4,9 +4,9 @@ use Rattle.std.specs.List.{filter, list_all}
 use Rattle.std.specs.Option.{option_to_list}
 use Rattle.hs_types.specs.declared.journal.Entry.{Entry}
 use Rattle.hs_types.specs.Limits.{journal_limit}
-use Rattle.hs_plain.specs.Legal.{Said, entry_left}
+use Rattle.hs_plain.specs.Legal.{Said, entry_left, number_rises, places_of}
 use Rattle.hs_plain.specs.Replay.{is_proper}
-use Rattle.run_output.specs.Steps.{Sections, Made, Step, printed, made, number_rises, places_of}
+use Rattle.run_output.specs.Steps.{Sections, Made, Step, printed, made}
 use Rattle.run_output.specs.Run.{caller, IsLegal}
 
 abbrev pub is_of : ℕ → Entry → Bool

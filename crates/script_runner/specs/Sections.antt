@@ -1,7 +1,6 @@
 -- What only private contracts and proofs use: sections of a script that were run.
-use Rattle.std.specs.Prelude.{◌≡◌, ℕ, ◌+◌, ◌≤◌, Bool, true, false, ◌&&◌, nat_le, if◌then◌else◌, List, [], ◌∷◌, ◌++◌, map, length, Option, Some, None}
+use Rattle.std.specs.Prelude.{◌≡◌, ℕ, ◌+◌, ◌≤◌, Bool, true, false, if◌then◌else◌, List, [], ◌∷◌, ◌++◌, map, length, Option, Some, None}
 use Rattle.std.specs.List.{flat_map, AllByRecursion}
-use Rattle.hs_types.specs.declared.ids.Side.{Side}
 use Rattle.hs_types.specs.declared.journal.Entry.{Entry}
 use Rattle.hs_types.specs.declared.reply.Answered.{Answered}
 use Rattle.hs_plain.specs.Legal.{Said}
@@ -12,7 +11,7 @@ use Rattle.script_text.specs.declared.command.Command.{Command}
 use Rattle.run_output.specs.declared.ran.LogItem.{LogItem}
 use Rattle.run_output.specs.declared.ran.ClientLog.{ClientLog}
 use Rattle.run_output.specs.Calls.{Kept, side_of}
-use Rattle.run_output.specs.Steps.{Sections, LineRun, AreCalls, in_order}
+use Rattle.run_output.specs.Steps.{Sections, LineRun, AreCalls}
 use Rattle.run_output.specs.Run.{is_section, are_in, are_clients, items_of, client_logs, logs_of, AreLines}
 use Rattle.script_runner.specs.declared.client.Client.{Client}
 use Rattle.script_runner.specs.InTurn.{World, IsSideRun, AreLinesRun, AreClientsRun, IsSerial}

@@ -1,5 +1,5 @@
 //! Pages that are asked for one after the other join to one content.
-ghost use Rattle.hs_plain.specs.Cuts.{CutByName, CutByIndex, CutByOffset};
+ghost use Rattle.hs_plain.specs.inside.Cuts.{CutByName, CutByIndex, CutByOffset};
 ghost use Rattle.hs_plain.specs.JoinedPages.{ListingsJoin, FilesJoin, ReportsJoin};
 
 /// Items cut by name, lines cut by index, and bytes cut by offset: pages, each from the cursor of the one before, are what

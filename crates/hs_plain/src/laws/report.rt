@@ -1,5 +1,6 @@
 //! The lines of a report.
-ghost use Rattle.hs_plain.specs.Ordered.{ReportIsOrdered, ReportsAreOrdered};
+ghost use Rattle.hs_plain.specs.Ordered.{ReportsAreOrdered};
+ghost use Rattle.hs_plain.specs.inside.Ordered.{ReportIsOrdered};
 
 /// The lines of a report stand strictly in the order of paths and kinds: no two have one path and one kind.
 pub fn report_is_ordered()

@@ -1,5 +1,6 @@
 //! The tick counts entries.
-ghost use Rattle.hs_plain.specs.Ticks.{TickCounts, TickRises};
+ghost use Rattle.hs_plain.specs.Ticks.{TickCounts};
+ghost use Rattle.hs_plain.specs.inside.Ticks.{TickRises};
 
 /// The tick is the number of entries that a namenode has journalled, whatever they did.
 pub fn tick_counts_entries()

@@ -8,7 +8,7 @@ ghost use Rattle.hs_plain.specs.declared.state.Node.{Node};
 ghost use Rattle.hs_plain.specs.Tree.{Tree, path_cmp, node_at, same_path, same_inode, place_of, is_under, subtree};
 ghost use Rattle.hs_plain.specs.Change.{restamp, stamped, remode, moded, without, repath, moved};
 ghost use Rattle.hs_plain.specs.Valid.{has_each_once};
-ghost use Rattle.hs_plain.specs.Places.{IsOutside, IsFree, IsOnlyAt, unless_place, stamped_node, moded_node};
+ghost use Rattle.hs_plain.specs.inside.Places.{IsOutside, IsFree, IsOnlyAt, unless_place, stamped_node, moded_node};
 
 /// A node put into a tree stands at its path, and all else as before.
 pub fn node_after_put()

@@ -1,8 +1,8 @@
 //! Worked examples, computed from the definitions: what a namenode is asked, and what it answers.
-ghost use Rattle.hs_plain.specs.WorkedMoves.{MovedOut, RenamedDirectory, Overwritten, HeldInPlace, NestedNowhere};
-ghost use Rattle.hs_plain.specs.WorkedPages.{MiddleDeleted, PagesOfTwo, MovedReport};
-ghost use Rattle.hs_plain.specs.WorkedRefusals.{RefusedCalls, GrownBehind};
-ghost use Rattle.hs_plain.specs.WorkedSyncs.{RenameBeside, Swapped, NewDirectories, SwappedLead, CreatedLead};
+ghost use Rattle.hs_plain.specs.worked.Moves.{MovedOut, RenamedDirectory, Overwritten, HeldInPlace, NestedNowhere};
+ghost use Rattle.hs_plain.specs.worked.Pages.{MiddleDeleted, PagesOfTwo, MovedReport};
+ghost use Rattle.hs_plain.specs.worked.Refusals.{RefusedCalls, GrownBehind};
+ghost use Rattle.hs_plain.specs.worked.Syncs.{RenameBeside, Swapped, NewDirectories, SwappedLead, CreatedLead};
 
 /// Calls with bad paths, reserved paths, paths into snapshots, and more that is refused: none leaves an entry.
 pub fn worked_refused()

@@ -1,6 +1,6 @@
 use Rattle.std.proofs.Common.{rules}
 use Rattle.std.proofs.lemmas.List.Sorted.{IsPartitionPoint-from_clause}
-use Rattle.hs_plain.specs.Tree.{is_after}
+use Rattle.hs_plain.specs.inside.Ranks.{is_after}
 use Rattle.hs_plain.proofs.Halves.{prefix_len-from_point, IsPartitionedBy-path}
 use Rattle.hs_plain.proofs.change.rank_by_halves.Goals as goal
 

@@ -1,6 +1,6 @@
 use Rattle.std.specs.Prelude.{is_some}
 use Rattle.std.proofs.Common.{ap, subst, ◌∙◌}
-use Rattle.namenode_write.proofs.CountedLaws.{counted_none, counted_then}
+use Rattle.namenode_write.proofs.CountedLaws.{counted_then}
 use Rattle.run_output.specs.Calls.{behind}
 use Rattle.script_runner.specs.Pages.{IsGreatest}
 use Rattle.script_runner.proofs.Served.{greatest_served}

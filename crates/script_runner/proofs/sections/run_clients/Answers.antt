@@ -1,7 +1,7 @@
 use Rattle.std.specs.Prelude.{is_some}
 use Rattle.std.proofs.Common.{◌+◌, refl, ◌∙◌}
 use Rattle.script_text.specs.declared.script.Section.TheVariants as sections
-use Rattle.namenode_write.proofs.CountedLaws.{counted_none, counted_then}
+use Rattle.namenode_write.proofs.CountedLaws.{counted_then}
 use Rattle.script_runner.proofs.Clients.{clients_grow}
 use Rattle.script_runner.proofs.Order.{section_order, client_among}
 use Rattle.script_runner.proofs.sections.run_clients.Goals as goal

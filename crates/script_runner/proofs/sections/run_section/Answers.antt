@@ -3,7 +3,7 @@ use Rattle.std.proofs.Common.{refl, ap, ◌∙◌}
 use Rattle.hs_types.specs.declared.ids.CallerId.{CallerId}
 use Rattle.namenode_write.proofs.CountedLaws.{counted_none, counted_then}
 use Rattle.script_runner.specs.Sections.{world}
-use Rattle.script_runner.proofs.Lines.{section_step, room_step, today_step, today_first, source_first, target_first, left_falls, section_end, past_end, section_starts, room_starts, today_starts}
+use Rattle.script_runner.proofs.Lines.{section_step, room_step, today_step, section_end, past_end, section_starts, room_starts, today_starts}
 use Rattle.script_runner.proofs.sections.run_section.Goals as goal
 
 pub loop-next-init : goal.loop-next-init

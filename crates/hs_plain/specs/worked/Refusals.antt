@@ -4,7 +4,7 @@ use Rattle.hs_types.specs.declared.call.Call.{Call}
 use Rattle.hs_types.specs.declared.call.Call.TheVariants as calls
 use Rattle.hs_types.specs.declared.reply.Reply.TheVariants as replies
 use Rattle.hs_types.specs.declared.refusal.Refusal.TheVariants.{BadPath, Reserved, ReadOnly, NotFound, NotFile, Exists, NotSnapshotName, IsRoot, NotSnapshottable}
-use Rattle.hs_plain.specs.Worked.{Told, AreTold, made_node, made_snapshot, whole_bytes}
+use Rattle.hs_plain.specs.worked.Calls.{Told, AreTold, made_node, made_snapshot, whole_bytes}
 
 -- ---- refused calls
 

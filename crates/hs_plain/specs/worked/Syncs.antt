@@ -14,7 +14,7 @@ use Rattle.hs_plain.specs.Tree.{Tree, subtree}
 use Rattle.hs_plain.specs.Reading.{copied_tree}
 use Rattle.hs_plain.specs.Replay.{plain_after}
 use Rattle.hs_plain.specs.Plan.{translate, translate_created, root_names, plan_of, listings_of, plan_calls, AreEqual}
-use Rattle.hs_plain.specs.Worked.{Told, AreTold, journal_of, made_node, made_snapshot, listed_dir, listed_file, whole_page, whole_bytes, whole_report, reported_dir, reported_file}
+use Rattle.hs_plain.specs.worked.Calls.{Told, AreTold, journal_of, made_node, made_snapshot, listed_dir, listed_file, whole_page, whole_bytes, whole_report, reported_dir, reported_file}
 
 -- the copied tree of a snapshot after these calls
 abbrev pub copy_after : List Call → ℕ → Tree (List ℕ)

@@ -6,7 +6,7 @@ use Rattle.hs_types.specs.declared.call.Point.TheVariants.{Snapshot, Now}
 use Rattle.hs_types.specs.declared.reply.Reply.TheVariants as replies
 use Rattle.hs_types.specs.declared.reply.LineKind.TheVariants.{Deleted, Renamed, Modified, Created}
 use Rattle.hs_types.specs.declared.refusal.Refusal.TheVariants.{NotEmpty, HasSnapshots, IntoItself, Nested}
-use Rattle.hs_plain.specs.Worked.{Told, AreTold, made_node, made_snapshot, whole_bytes, whole_report, reported_dir, reported_file}
+use Rattle.hs_plain.specs.worked.Calls.{Told, AreTold, made_node, made_snapshot, whole_bytes, whole_report, reported_dir, reported_file}
 
 -- ---- a file moved out
 

@@ -9,7 +9,7 @@ use Rattle.hs_types.specs.declared.call.Point.TheVariants.{Snapshot, Now}
 use Rattle.hs_types.specs.declared.reply.Reply.TheVariants as replies
 use Rattle.hs_types.specs.declared.reply.LineKind.TheVariants.{Deleted, Modified, Created}
 use Rattle.hs_types.specs.declared.refusal.Refusal.TheVariants.{NotFound, Gone, Moved}
-use Rattle.hs_plain.specs.Worked.{Told, AreTold, made_node, made_snapshot, listed_dir, listed_file, whole_page, whole_report, reported_dir, reported_file}
+use Rattle.hs_plain.specs.worked.Calls.{Told, AreTold, made_node, made_snapshot, listed_dir, listed_file, whole_page, whole_report, reported_dir, reported_file}
 
 -- ---- the snapshot in the middle deleted
 
