@@ -310,9 +310,13 @@ module _ (state : State (List ℕ)) (is : IsTree state.tree) (root : Names) (bar
         refl,
       )
 
-  pub delete-ok : (text : List ℕ) (tmp : List ℕ) → Leads text root (tmp ∷ []) → is_dir_seen (held state root (tmp ∷ [])) ≡ true → delete_at state text true ≡ Ok (root ++ tmp ∷ [])
+  node-so : (o : Option (Node (List ℕ))) → is_some (content_of o) ≡ true → (n : Node (List ℕ)) × (o ≡ Some n)
+  node-so None h = absurd (true_false h refl)
+  node-so (Some n) h = (n, refl)
+
+  pub delete-ok : (text : List ℕ) (tmp : List ℕ) → Leads text root (tmp ∷ []) → is_some (held state root (tmp ∷ [])) ≡ true → delete_at state text true ≡ Ok (root ++ tmp ∷ [])
   delete-ok text tmp leads there =
-      let d : (n : Node (List ℕ)) × (node_at state.tree (root ++ tmp ∷ []) ≡ Some n) × (is_dir n ≡ true) = dir-so (node_at state.tree (root ++ tmp ∷ [])) there in
+      let d : (n : Node (List ℕ)) × (node_at state.tree (root ++ tmp ∷ []) ≡ Some n) = node-so (node_at state.tree (root ++ tmp ∷ [])) there in
       ap (λ (a : Asked Names). a >>= λ p. walk state.tree p >>= λ node. refuse_if (is_root_path p) IsRoot >>= λ _. refuse_if (spares_children state.tree p true) NotEmpty >>= λ _. refuse_if (holds_snapshots state p) HasSnapshots >>= λ _. Ok p) leads
       ∙ ap (λ (w : Asked (Node (List ℕ))). w >>= λ node. refuse_if (is_root_path (root ++ tmp ∷ [])) IsRoot >>= λ _. refuse_if (holds_snapshots state (root ++ tmp ∷ [])) HasSnapshots >>= λ _. Ok (root ++ tmp ∷ [])) (walk-ok state.tree is (root ++ tmp ∷ []) d.0 d.1)
       ∙ ap (λ b. refuse_if b IsRoot >>= λ _. refuse_if (holds_snapshots state (root ++ tmp ∷ [])) HasSnapshots >>= λ _. Ok (root ++ tmp ∷ [])) (not_root root tmp)
@@ -340,7 +344,7 @@ module _ (state : State (List ℕ)) (is : IsTree state.tree) (root : Names) (bar
       (λ f. ap (λ b. cond b (Some (File (at.1 ++ bytes))) (held state root q)) f ∙ sym (ap (λ b. cond b (option_map (grown_body bytes) (held state root q)) (held state root q)) f))
 
   -- a recursive delete that goes is accepted, and changes what is seen
-  pub delete-changes : (text : List ℕ) (tmp : List ℕ) → Leads text root (tmp ∷ []) → is_dir_seen (held state root (tmp ∷ [])) ≡ true →
+  pub delete-changes : (text : List ℕ) (tmp : List ℕ) → Leads text root (tmp ∷ []) → is_some (held state root (tmp ∷ [])) ≡ true →
       (q : Names) → held (change plain_files state (calls.Delete text true)) root q ≡ without_sight (held state root) (tmp ∷ []) q
   delete-changes text tmp leads there q =
       ap (λ (a : Asked Names). held (if_asked (removed state) state a) root q) (delete-ok text tmp leads there)

@@ -17,7 +17,7 @@ use Rattle.hs_plain.specs.Plan.{goes_by, goes, outs, index_of, is_other, is_copi
 use Rattle.plan_laws.specs.Sight.{Placing, Back, New, target, targets, is_in, Same, Child, Differ, HasDirs}
 use Rattle.hs_plain.specs.Report.{last_of, same_place, has_id}
 use Rattle.plan_laws.specs.Placings.{placing_by, placing_at, placings}
-use Rattle.plan_laws.specs.Pair.{IsTree, IsPair, if_old, old_sight, Alike}
+use Rattle.plan_laws.specs.Pair.{IsTree, IsPair, HasSameBytes, if_old, old_sight, Alike}
 use Rattle.plan_laws.proofs.Paths.{by, by_one}
 use Rattle.plan_laws.proofs.Places.{path_of_place, last_of-last, place_of-so, place_of-missing, place_of-here, dir-above, none-below, id_above-at, same_place-at, not_root}
 use Rattle.plan_laws.proofs.Lists.{same-so, same-here, is_in-reverse}
@@ -225,15 +225,6 @@ module _ {B : Type 0} (from to : Tree B) (is : IsPair from to) where
       not_so true h = refl
       not_so false h = absurd (true_false refl h)
 
-  pub alike-so : (p q : Names) (x m : Node B) → node_at from p ≡ Some x → node_at to q ≡ Some m → x.id.0 ≡ m.id.0 → Alike from x m
-  alike-so p q x m here there same = record {
-    same_id = same;
-    same_kind = is.one_kind p q x m here there same;
-    same_body = λ not_copied. by (is_dir m)
-        (λ d. dir_body x.body (is.one_kind p q x m here there same ∙ d) ∙ sym (dir_body m.body d))
-        (λ f. is.same_bytes p q x m here there same (stays x m p (place_of-here from from_tree p x m.id here (sym same)) f not_copied));
-  }
-
   pub alike-itself : (m : Node B) → Alike from m m
   alike-itself m = record { same_id = refl; same_kind = refl; same_body = λ _. refl }
 
@@ -247,57 +238,10 @@ module _ {B : Type 0} (from to : Tree B) (is : IsPair from to) where
   pub dir-old : (q : Names) (m : Node B) → node_at to q ≡ Some m → is_old m ≡ true → old_sight from to q ≡ Some m
   dir-old q m at old_one = ap (if_old from) at ∙ ap (λ b. cond b (Some m) None) old_one
 
-  -- ---- the meeting of the two trees
-
-  abbrev Meets : Names → Names → Type 0
-  Meets p t = Child (Alike from) (node_at from) (old_sight from to) (is_in (outs from to)) (is_in (targets (placings from to))) p t
-
-  child-same : (p t : Names) (n : List ℕ) (a b x m : Node B) → node_at from p ≡ Some a → node_at to t ≡ Some b → a.id.0 ≡ b.id.0 → node_at from (p ++ n ∷ []) ≡ Some x → node_at to (t ++ n ∷ []) ≡ Some m → x.id.0 ≡ m.id.0 →
-      Same (Alike from) (node_at from) (old_sight from to) (is_in (outs from to)) (is_in (targets (placings from to))) (p ++ n ∷ []) (t ++ n ∷ [])
-  child-same p t n a b x m here there alike at to_at same =
-      let old : place_of from m.id ≡ Some (p ++ n ∷ [], x) = place_of-here from from_tree (p ++ n ∷ []) x m.id at (sym same) in
-      let one : same_place from to (p ++ n ∷ []) (t ++ n ∷ []) ≡ true = same_here p t n a b here there alike in
-      record {
-        a = x;
-        b = m;
-        here = at;
-        there = dir-old (t ++ n ∷ []) m to_at (or_second (is_dir m) (is_some (place_of from m.id)) (ap is_some old));
-        alike = alike-so (p ++ n ∷ []) (t ++ n ∷ []) x m at to_at same;
-        no_out = not-out (p ++ n ∷ []) x at (ap (goes_by from to (p ++ n ∷ [])) (place_of-here to to_tree (t ++ n ∷ []) m x.id to_at same) ∙ ap not one);
-        no_put = not-put (t ++ n ∷ []) m to_at (put-by t n m ∙ ap (placing_by from to (t ++ n ∷ [], m)) old ∙ ap (λ b. cond b None (Some (Back (index_of (outs from to) (p ++ n ∷ [])) (parent_of (t ++ n ∷ [])) (last_of (t ++ n ∷ []))))) one);
-      }
-
-  child-at : (p t : Names) (n : List ℕ) (a b : Node B) → node_at from p ≡ Some a → node_at to t ≡ Some b → a.id.0 ≡ b.id.0 → Meets (p ++ n ∷ []) (t ++ n ∷ [])
-  child-at p t n a b here there alike = by_one (node_at from (p ++ n ∷ []))
-      (λ x at. by_one (node_at to (t ++ n ∷ []))
-      (λ m to_at. by (x.id.0 == m.id.0)
-      (λ same. inl (child-same p t n a b x m here there alike at to_at ((Decides-eqb x.id.0 m.id.0).0 same)))
-      (λ differ. inr (
-        inr (out-so (p ++ n ∷ []) x at (left-cut p t n a b x here there alike at (λ k kt same. other x m differ x k at at to_at kt (sym same)))),
-        right-cut p t n a b here there alike (λ y k yt kt same. other x m differ y k at yt to_at kt same),
-      )))
-      (λ none. inr (
-        inr (out-so (p ++ n ∷ []) x at (left-cut p t n a b x here there alike at (λ k kt same. none_some (sym none ∙ kt)))),
-        inl (ap (if_old from) none),
-      )))
-      (λ none. inr (inl none, right-cut p t n a b here there alike (λ y k yt kt same. none_some (sym none ∙ yt))))
-    where
-      other : (x m : Node B) → (x.id.0 == m.id.0) ≡ false → (y k : Node B) → node_at from (p ++ n ∷ []) ≡ Some x → node_at from (p ++ n ∷ []) ≡ Some y → node_at to (t ++ n ∷ []) ≡ Some m → node_at to (t ++ n ∷ []) ≡ Some k → y.id.0 ≡ k.id.0 → ⊥
-      other x m differ y k xt yt mt kt same = true_false ((Decides-eqb x.id.0 m.id.0).1 (ap (λ (z : Node B). z.id.0) (same_some (sym xt ∙ yt)) ∙ same ∙ ap (λ (z : Node B). z.id.0) (same_some (sym kt ∙ mt)))) differ
-
   pub old-dirs : HasDirs is_dir (old_sight from to)
   old-dirs above name node at =
       let d : (dir : Node B) × (node_at to above ≡ Some dir) × (is_dir dir ≡ true) = dir-above to to_tree above name node (old-so (node_at to (above ++ name ∷ [])) node at) in
       (d.0, dir-old above d.0 d.1 (ap (λ b. b || is_some (place_of from d.0.id)) d.2), d.2)
-
-  pub differ : Differ (Alike from) (node_at from) (old_sight from to) (is_in (outs from to)) (is_in (targets (placings from to)))
-  differ = record {
-    child = λ p t n a b here there alike. child-at p t n a b here (old-so (node_at to t) b there) alike.same_id;
-    none_below = λ p n none. none-below from from_tree p n none;
-    none_below_there = λ p n none. by_one (old_sight from to (p ++ n ∷ []))
-        (λ node at. absurd (none_some (sym none ∙ (old-dirs p n node at).1)))
-        (λ gone. gone);
-  }
 
   -- a child of a new directory is in no place that the first tree has
   pub same_place_new : (t : Names) (n : List ℕ) (dir c : Node B) (old : Names × Node B) → node_at to t ≡ Some dir → place_of from dir.id ≡ None → node_at to (t ++ n ∷ []) ≡ Some c → place_of from c.id ≡ Some old → same_place from to old.0 (t ++ n ∷ []) ≡ false
@@ -311,3 +255,60 @@ module _ {B : Type 0} (from to : Tree B) (is : IsPair from to) where
       (λ both_same. absurd (place_of-missing from dir.id above d.0 new d.1 ((Decides-eqb d.0.id.0 dir.id.0).0 (first (same_inode d.0.id dir.id) _ both_same))))
       (λ f. f))
       so.0
+
+  -- ---- the meeting of the two trees
+
+  module _ (bytes : HasSameBytes from to) where
+    pub alike-so : (p q : Names) (x m : Node B) → node_at from p ≡ Some x → node_at to q ≡ Some m → x.id.0 ≡ m.id.0 → Alike from x m
+    alike-so p q x m here there same = record {
+      same_id = same;
+      same_kind = is.one_kind p q x m here there same;
+      same_body = λ not_copied. by (is_dir m)
+          (λ d. dir_body x.body (is.one_kind p q x m here there same ∙ d) ∙ sym (dir_body m.body d))
+          (λ f. bytes p q x m here there same (stays x m p (place_of-here from from_tree p x m.id here (sym same)) f not_copied));
+    }
+
+    abbrev Meets : Names → Names → Type 0
+    Meets p t = Child (Alike from) (node_at from) (old_sight from to) (is_in (outs from to)) (is_in (targets (placings from to))) p t
+
+    child-same : (p t : Names) (n : List ℕ) (a b x m : Node B) → node_at from p ≡ Some a → node_at to t ≡ Some b → a.id.0 ≡ b.id.0 → node_at from (p ++ n ∷ []) ≡ Some x → node_at to (t ++ n ∷ []) ≡ Some m → x.id.0 ≡ m.id.0 →
+        Same (Alike from) (node_at from) (old_sight from to) (is_in (outs from to)) (is_in (targets (placings from to))) (p ++ n ∷ []) (t ++ n ∷ [])
+    child-same p t n a b x m here there alike at to_at same =
+        let old : place_of from m.id ≡ Some (p ++ n ∷ [], x) = place_of-here from from_tree (p ++ n ∷ []) x m.id at (sym same) in
+        let one : same_place from to (p ++ n ∷ []) (t ++ n ∷ []) ≡ true = same_here p t n a b here there alike in
+        record {
+          a = x;
+          b = m;
+          here = at;
+          there = dir-old (t ++ n ∷ []) m to_at (or_second (is_dir m) (is_some (place_of from m.id)) (ap is_some old));
+          alike = alike-so (p ++ n ∷ []) (t ++ n ∷ []) x m at to_at same;
+          no_out = not-out (p ++ n ∷ []) x at (ap (goes_by from to (p ++ n ∷ [])) (place_of-here to to_tree (t ++ n ∷ []) m x.id to_at same) ∙ ap not one);
+          no_put = not-put (t ++ n ∷ []) m to_at (put-by t n m ∙ ap (placing_by from to (t ++ n ∷ [], m)) old ∙ ap (λ b. cond b None (Some (Back (index_of (outs from to) (p ++ n ∷ [])) (parent_of (t ++ n ∷ [])) (last_of (t ++ n ∷ []))))) one);
+        }
+
+    child-at : (p t : Names) (n : List ℕ) (a b : Node B) → node_at from p ≡ Some a → node_at to t ≡ Some b → a.id.0 ≡ b.id.0 → Meets (p ++ n ∷ []) (t ++ n ∷ [])
+    child-at p t n a b here there alike = by_one (node_at from (p ++ n ∷ []))
+        (λ x at. by_one (node_at to (t ++ n ∷ []))
+        (λ m to_at. by (x.id.0 == m.id.0)
+        (λ same. inl (child-same p t n a b x m here there alike at to_at ((Decides-eqb x.id.0 m.id.0).0 same)))
+        (λ differ. inr (
+          inr (out-so (p ++ n ∷ []) x at (left-cut p t n a b x here there alike at (λ k kt same. other x m differ x k at at to_at kt (sym same)))),
+          right-cut p t n a b here there alike (λ y k yt kt same. other x m differ y k at yt to_at kt same),
+        )))
+        (λ none. inr (
+          inr (out-so (p ++ n ∷ []) x at (left-cut p t n a b x here there alike at (λ k kt same. none_some (sym none ∙ kt)))),
+          inl (ap (if_old from) none),
+        )))
+        (λ none. inr (inl none, right-cut p t n a b here there alike (λ y k yt kt same. none_some (sym none ∙ yt))))
+      where
+        other : (x m : Node B) → (x.id.0 == m.id.0) ≡ false → (y k : Node B) → node_at from (p ++ n ∷ []) ≡ Some x → node_at from (p ++ n ∷ []) ≡ Some y → node_at to (t ++ n ∷ []) ≡ Some m → node_at to (t ++ n ∷ []) ≡ Some k → y.id.0 ≡ k.id.0 → ⊥
+        other x m differ y k xt yt mt kt same = true_false ((Decides-eqb x.id.0 m.id.0).1 (ap (λ (z : Node B). z.id.0) (same_some (sym xt ∙ yt)) ∙ same ∙ ap (λ (z : Node B). z.id.0) (same_some (sym kt ∙ mt)))) differ
+
+    pub differ : Differ (Alike from) (node_at from) (old_sight from to) (is_in (outs from to)) (is_in (targets (placings from to)))
+    differ = record {
+      child = λ p t n a b here there alike. child-at p t n a b here (old-so (node_at to t) b there) alike.same_id;
+      none_below = λ p n none. none-below from from_tree p n none;
+      none_below_there = λ p n none. by_one (old_sight from to (p ++ n ∷ []))
+          (λ node at. absurd (none_some (sym none ∙ (old-dirs p n node at).1)))
+          (λ gone. gone);
+    }

@@ -15,7 +15,7 @@ in-right xs ys x at = record { before = xs ++ at.before; after = at.after; is = 
 pub in-left : {A : Type 0} (xs ys : List A) (x : A) → IsIn xs x → IsIn (xs ++ ys) x
 in-left xs ys x at = record { before = at.before; after = at.after ++ ys; is = ap (λ zs. zs ++ ys) at.is ∙ append_assoc at.before (x ∷ at.after) ys }
 
-split-in : {A : Type 0} (xs : List A) (x : A) → In xs x → IsIn xs x
+pub split-in : {A : Type 0} (xs : List A) (x : A) → In xs x → IsIn xs x
 split-in [] x at = absurd at
 split-in (y ∷ ys) x (inl e) = record { before = []; after = ys; is = ap (λ z. z ∷ ys) e }
 split-in (y ∷ ys) x (inr at) = in-right (y ∷ []) ys x (split-in ys x at)

@@ -16,7 +16,7 @@ use Rattle.hs_plain.proofs.ValidFollows.{live_tree, live_dirs}
 use Rattle.hs_plain.proofs.Validity.{valid-replay_from}
 use Rattle.plan_laws.specs.Copies.{Contents, CopyCall, IsMerging, content_of}
 use Rattle.plan_laws.specs.Bridge.{held}
-use Rattle.plan_laws.specs.Steps.{plan_steps, step_call, StepLeads, HasFirst, AreOk}
+use Rattle.plan_laws.specs.Steps.{plan_steps, step_call, StepLeads, HasFirst, NextIsOk, AreOk}
 use Rattle.plan_laws.specs.Target.{IsBegun, IsTarget}
 use Rattle.plan_laws.proofs.Near.{live-is}
 use Rattle.plan_laws.proofs.Whole.{sync-equal}
@@ -43,12 +43,15 @@ module _ (from to : Tree (List ℕ)) (tmp : List ℕ) (number : ℕ → List ℕ
 
   all : Leads text root_text root (live-is root_text root target.leads) target.node.id is_own entries (plan_steps tmp number from to copies) first.rest state seen
   all = all-entries text root_text root (live-is root_text root target.leads) target.node.id is_own entries (plan_steps tmp number from to copies) first.rest state seen target.valid root-at refl
-      first.own leads (plan-goes tmp number from to begun.pair begun.numbers_differ begun.from_free begun.to_free pages copies merging seen begins) first.accepted first.others
+      first.own leads (plan-goes tmp number from to begun.pair begun.same_bytes begun.numbers_differ begun.from_free begun.to_free pages copies merging seen begins) first.accepted first.others
 
   pub all-ok : AreOk is_own state entries
   all-ok = all.0
 
+  pub next-ok : NextIsOk (replay_from plain_files state entries) first.rest
+  next-ok = all.1
+
   pub ends-equal : first.rest ≡ [] → AreEqual to (subtree (replay_from plain_files state entries).tree root)
   ends-equal none = equal-held (replay_from plain_files state entries) root to (valid-replay_from plain_files state entries target.valid).sorted begun.pair.to_tree.sorted (λ q.
-      ap (λ (c : Contents). c q) (all.1.0 none ∙ plan-done tmp number from to begun.pair begun.numbers_differ begun.from_free begun.to_free pages copies merging seen begins)
-      ∙ sync-equal from to begun.pair tmp number begun.numbers_differ begun.from_free begun.to_free seen begins pages copies merging q)
+      ap (λ (c : Contents). c q) (all.2.0 none ∙ plan-done tmp number from to begun.pair begun.same_bytes begun.numbers_differ begun.from_free begun.to_free pages copies merging seen begins)
+      ∙ sync-equal from to begun.pair begun.same_bytes tmp number begun.numbers_differ begun.from_free begun.to_free seen begins pages copies merging q)

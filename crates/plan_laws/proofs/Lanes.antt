@@ -1,5 +1,5 @@
--- Two mergings of copies lead to the same, also where calls are refused.
-use Rattle.std.proofs.Common.{◌≡◌, ℕ, true, false, cond, Some, List, [], ◌∷◌, ◌++◌, refl, ap, sym, ◌∙◌}
+-- What copies' calls leave at each path where some are refused, and that two mergings have the same calls there.
+use Rattle.std.proofs.Common.{◌≡◌, ◌⊎◌, inl, inr, ℕ, true, false, cond, Some, List, [], ◌∷◌, ◌++◌, refl, ap, sym, ◌∙◌}
 use Rattle.std.specs.Prelude.{not, ◌&&◌}
 use Rattle.std.specs.List.{filter}
 use Rattle.hs_types.specs.Names.{Names}
@@ -9,9 +9,10 @@ use Rattle.hs_plain.proofs.ValidShapes.{none_some, same_some, by_last, parent_of
 use Rattle.hs_plain.specs.Plan.{is_other, is_copied}
 use Rattle.plan_laws.specs.Pair.{IsPair}
 use Rattle.plan_laws.specs.Copies.{Contents, CopyCall, path_of_call, is_at, is_dir_seen, IsMerging}
-use Rattle.plan_laws.specs.Lanes.{taken_here, all_taken_here, call_taken, calls_taken}
+use Rattle.plan_laws.specs.inside.Taken.{taken_here, all_taken_here, call_taken, calls_taken}
 use Rattle.plan_laws.proofs.Paths.{by, by_one}
 use Rattle.plan_laws.proofs.Lists.{same-so}
+use Rattle.plan_laws.proofs.Places.{dir-above}
 
 -- no call is at a path
 NoneAt : Names → List CopyCall → Type 0
@@ -50,8 +51,19 @@ taken-apart (call ∷ calls) seen q none =
     taken-apart calls (call_taken seen call) q head.1
     ∙ ap (λ b. cond b (taken_here (is_dir_seen (seen (parent_of (path_of_call call)))) call (seen q)) (seen q)) head.0
 
-module _ (from to : Tree (List ℕ)) (is : IsPair from to) (dirs : (above : Names) (name : List ℕ) (node : Node (List ℕ)) → node_at to (above ++ name ∷ []) ≡ Some node → (dir : Node (List ℕ)) × (node_at to above ≡ Some dir) × (is_dir dir ≡ true))
-    (pages : Names → List (List ℕ)) (one two : List CopyCall) (is_one : IsMerging from to pages one) (is_two : IsMerging from to pages two) where
+-- two lists of calls that agree at each path, in which no call is at the directory above another's path, lead to the same
+pub taken-same : (one two : List CopyCall) → ((q : Names) → filter (is_at q) one ≡ filter (is_at q) two) → ((q : Names) → (filter (is_at q) one ≡ []) ⊎ (filter (is_at (parent_of q)) one ≡ [])) →
+    (seen : Contents) (q : Names) → calls_taken seen one q ≡ calls_taken seen two q
+taken-same one two same apart seen q = by-apart (apart q)
+  where
+    by-apart : (filter (is_at q) one ≡ []) ⊎ (filter (is_at (parent_of q)) one ≡ []) → calls_taken seen one q ≡ calls_taken seen two q
+    by-apart (inl none) = taken-apart one seen q none ∙ sym (taken-apart two seen q (sym (same q) ∙ none))
+    by-apart (inr none) =
+        taken-here one seen q none
+        ∙ ap (λ (cs : List CopyCall). all_taken_here (is_dir_seen (seen (parent_of q))) cs (seen q)) (same q)
+        ∙ sym (taken-here two seen q (sym (same (parent_of q)) ∙ none))
+
+module _ (from to : Tree (List ℕ)) (is : IsPair from to) (pages : Names → List (List ℕ)) (one two : List CopyCall) (is_one : IsMerging from to pages one) (is_two : IsMerging from to pages two) where
   by-copied : {P : Type 0} (q : Names) → ((m : Node (List ℕ)) → node_at to q ≡ Some m → is_copied from (q, m) ≡ true → P) → (((m : Node (List ℕ)) → node_at to q ≡ Some m → is_copied from (q, m) ≡ false) → P) → P
   by-copied q copied other = by_one (node_at to q)
       (λ m at. by (is_copied from (q, m)) (λ t. copied m at t) (λ f. other (λ n bt. ap (λ x. is_copied from (q, x)) (same_some (sym bt ∙ at)) ∙ f)))
@@ -66,15 +78,13 @@ module _ (from to : Tree (List ℕ)) (is : IsPair from to) (dirs : (above : Name
   above-apart : (q : Names) (m : Node (List ℕ)) → node_at to q ≡ Some m → (n : Node (List ℕ)) → node_at to (parent_of q) ≡ Some n → is_copied from (parent_of q, n) ≡ false
   above-apart q m at n bt = by_last (λ q. node_at to q ≡ Some m → node_at to (parent_of q) ≡ Some n → is_copied from (parent_of q, n) ≡ false) q
       (λ at bt. dir-apart [] is.to_root is.to_at root-dir n bt)
-      (λ above name at bt. let d : (dir : Node (List ℕ)) × (node_at to above ≡ Some dir) × (is_dir dir ≡ true) = dirs above name m at in
+      (λ above name at bt. let d : (dir : Node (List ℕ)) × (node_at to above ≡ Some dir) × (is_dir dir ≡ true) = dir-above to is.to_tree above name m at in
       dir-apart (parent_of (above ++ name ∷ [])) d.0 (ap (node_at to) (parent_of-last above name) ∙ d.1) d.2 n bt)
       at bt
 
-  -- any two mergings lead to the same
-  pub mergings-same : (seen : Contents) (q : Names) → calls_taken seen one q ≡ calls_taken seen two q
-  mergings-same seen q = by-copied q
-      (λ m at copied.
-      taken-here one seen q (is_one.elsewhere (parent_of q) (above-apart q m at))
-      ∙ ap (λ (cs : List CopyCall). all_taken_here (is_dir_seen (seen (parent_of q))) cs (seen q)) (is_one.at_copy q m at copied ∙ sym (is_two.at_copy q m at copied))
-      ∙ sym (taken-here two seen q (is_two.elsewhere (parent_of q) (above-apart q m at))))
-      (λ other. taken-apart one seen q (is_one.elsewhere q other) ∙ sym (taken-apart two seen q (is_two.elsewhere q other)))
+  -- two mergings have the same calls at each path, and none at a directory
+  pub mergings-agree : (q : Names) → filter (is_at q) one ≡ filter (is_at q) two
+  mergings-agree q = by-copied q (λ m at copied. is_one.at_copy q m at copied ∙ sym (is_two.at_copy q m at copied)) (λ other. is_one.elsewhere q other ∙ sym (is_two.elsewhere q other))
+
+  pub mergings-apart : (q : Names) → (filter (is_at q) one ≡ []) ⊎ (filter (is_at (parent_of q)) one ≡ [])
+  mergings-apart q = by-copied q (λ m at copied. inr (is_one.elsewhere (parent_of q) (above-apart q m at))) (λ other. inl (is_one.elsewhere q other))

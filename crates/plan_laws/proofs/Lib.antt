@@ -27,6 +27,17 @@ pub mod Equal
 pub mod Journal
 pub mod Numbers
 pub mod Merged
+pub mod Texts
+pub mod PlanTexts
 pub mod Planned
 pub mod PlanJournal
 pub mod Temporary
+pub mod Sizes
+pub mod Begun
+pub mod UnderWay
+pub mod Tried
+pub mod TriedPlans
+pub mod Distinct
+pub mod Waiting
+pub mod FirstDirs
+pub mod AllListed

@@ -79,7 +79,7 @@ in-own-line one (other ∷ lines) = either (line_before other one) (in-own-line 
     either true rest = in-right (other ∷ []) (with_line one lines) one rest
     either false rest = in-head one (other ∷ lines)
 
-in-with_lines : (more lines : List Line) (x : Line) → IsIn more x → IsIn (with_lines more lines) x
+pub in-with_lines : (more lines : List Line) (x : Line) → IsIn more x → IsIn (with_lines more lines) x
 in-with_lines more lines x at = subst (λ zs. IsIn (with_lines zs lines) x) (sym at.is) (spread at.before)
   where
     spread : (before : List Line) → IsIn (with_lines (before ++ x ∷ at.after) lines) x
@@ -93,16 +93,16 @@ only-one [] name h = absurd (none_some h)
 only-one (n ∷ []) name h = ap (λ (x : List ℕ). x ∷ []) (same_some h)
 only-one (n ∷ m ∷ rest) name h = absurd (none_some h)
 
-below-last : (t : Names) (n : List ℕ) → name_below t (t ++ n ∷ []) ≡ Some n
+pub below-last : (t : Names) (n : List ℕ) → name_below t (t ++ n ∷ []) ≡ Some n
 below-last t n = ap (λ b. cond b (only_name (drop (length t) (t ++ n ∷ []))) None) (under_test (t ++ n ∷ []) t (n ∷ []) refl) ∙ ap only_name (drop-append_seam t (n ∷ []))
 
-below-so : (t q : Names) (n : List ℕ) → name_below t q ≡ Some n → q ≡ t ++ n ∷ []
+pub below-so : (t q : Names) (n : List ℕ) → name_below t q ≡ Some n → q ≡ t ++ n ∷ []
 below-so t q n h = by (starts_with bytes_eq q t)
     (λ s. under_so q t s ∙ ap (λ (x : Names). t ++ x) (only-one (drop (length t) q) n (sym (ap (λ b. cond b (only_name (drop (length t) q)) None) s) ∙ h)))
     (λ s. absurd (none_some (sym (ap (λ b. cond b (only_name (drop (length t) q)) None) s) ∙ h)))
 
 module _ {B : Type 0} where
-  in-places : (tree : Tree B) (q : Names) (m : Node B) → node_at tree q ≡ Some m → IsIn tree (q, m)
+  pub in-places : (tree : Tree B) (q : Names) (m : Node B) → node_at tree q ≡ Some m → IsIn tree (q, m)
   in-places [] q m at = absurd (none_some at)
   in-places (e ∷ es) q m at = by_place e es q m at
       (λ qe me. subst (λ (x : Names × Node B). IsIn (e ∷ es) x) (sym (λ i. (qe i, me i))) (in-head e es))
@@ -131,16 +131,16 @@ module _ {B : Type 0} (from to : Tree B) (is : IsPair from to) where
   abbrev Tells : Line → Type 0
   Tells one = one.kind ≡ Created → Sound (record { id = one.id; is_dir = one.is_dir; path = translate lines (parent_of one.path) ++ last_of one.path ∷ [] })
 
-  del-not : Deleted ≡ Created → ⊥
+  pub del-not : Deleted ≡ Created → ⊥
   del-not e = cc
 
-  ren-not : Renamed ≡ Created → ⊥
+  pub ren-not : Renamed ≡ Created → ⊥
   ren-not e = cc
 
-  mod-not : Modified ≡ Created → ⊥
+  pub mod-not : Modified ≡ Created → ⊥
   mod-not e = cc
 
-  each-if : (P : Line → Type 0) (b : Bool) (one : Line) (more : List Line) → P one → AllByRecursion P more → AllByRecursion P (line_if b one more)
+  pub each-if : (P : Line → Type 0) (b : Bool) (one : Line) (more : List Line) → P one → AllByRecursion P more → AllByRecursion P (line_if b one more)
   each-if P true one more h k = (h, k)
   each-if P false one more h k = k
 
@@ -170,7 +170,7 @@ module _ {B : Type 0} (from to : Tree B) (is : IsPair from to) where
           }))
           (λ gone. absurd (none_some (sym (ap (created_by from to (t ++ n ∷ [], m)) new ∙ ap (λ o. created_in (t ++ n ∷ [], m) (place_above from o)) (id_above-at to t n d.0 d.1) ∙ ap (created_in (t ++ n ∷ [], m)) gone) ∙ h))))
 
-  each-created : (P : Line → Type 0) (tree : Tree B) → is_sorted path_cmp tree ≡ true → ((q : Names) (m : Node B) (one : Line) → node_at tree q ≡ Some m → created from to (q, m) ≡ Some one → P one) → AllByRecursion P (filter_map (created from to) tree)
+  pub each-created : (P : Line → Type 0) (tree : Tree B) → is_sorted path_cmp tree ≡ true → ((q : Names) (m : Node B) (one : Line) → node_at tree q ≡ Some m → created from to (q, m) ≡ Some one → P one) → AllByRecursion P (filter_map (created from to) tree)
   each-created P [] h all = tt
   each-created P (e ∷ es) h all = each-cons (created from to e) refl (each-created P es (trees.second (below_all path_cmp e.0 es) _ h) (λ q m one at. all q m one (in_tail e es q m (trees.first (below_all path_cmp e.0 es) _ h) at)))
     where
@@ -178,11 +178,11 @@ module _ {B : Type 0} (from to : Tree B) (is : IsPair from to) where
       each-cons None t rest = rest
       each-cons (Some one) t rest = (all e.0 e.1 one (head_at e es) t, rest)
 
-  lines-tell : AllByRecursion Tells lines
+  pub lines-tell : AllByRecursion Tells lines
   lines-tell = each-with_lines Tells (filter_map (created from to) to) (flat_map (lines_from from to) from) (each-created Tells to is.to_tree.sorted created-tells)
       (each-flat Tells (lines_from from to) from is.from_tree.sorted (λ q m at. base-tells q m (place_of to m.id)))
 
-  first-sound : (ls : List Line) → AllByRecursion Tells ls → AllByRecursion Sound (filter_map (λ one. new_by lines one.kind one) ls)
+  pub first-sound : (ls : List Line) → AllByRecursion Tells ls → AllByRecursion Sound (filter_map (λ one. new_by lines one.kind one) ls)
   first-sound [] tells = tt
   first-sound (one ∷ ls) tells = by-kind one.kind refl (first-sound ls tells.1)
     where
@@ -194,7 +194,7 @@ module _ {B : Type 0} (from to : Tree B) (is : IsPair from to) where
 
   -- ---- listings tell what is new in new directories
 
-  path-so : (news : List NewItem) (id : InodeId) (path : Names) → AllByRecursion Sound news → path_in news id ≡ Some path → (m : Node B) × (node_at to path ≡ Some m) × (m.id.0 ≡ id.0)
+  pub path-so : (news : List NewItem) (id : InodeId) (path : Names) → AllByRecursion Sound news → path_in news id ≡ Some path → (m : Node B) × (node_at to path ≡ Some m) × (m.id.0 ≡ id.0)
   path-so [] id path sound h = absurd (none_some h)
   path-so (one ∷ news) id path sound h = by (same_inode one.id id)
       (λ t. let same : one.path ≡ path = same_some (ap (λ b. cond b (Some one.path) (path_in news id)) (sym t) ∙ h) in
@@ -229,7 +229,7 @@ module _ {B : Type 0} (from to : Tree B) (is : IsPair from to) where
             new = by_one (place_of from m.id) (λ old e. absurd (true_false (renamed-id from to is listed.path n listed.dir m old listed.at listed.new at e) f)) (λ none. none);
           }))
 
-  news-sound : (news : List NewItem) (one : Listing) → IsListed from to one → AllByRecursion Sound news → (o : Option Names) → path_in news one.dir ≡ o → AllByRecursion Sound (news_at lines one.items o)
+  pub news-sound : (news : List NewItem) (one : Listing) → IsListed from to one → AllByRecursion Sound news → (o : Option Names) → path_in news one.dir ≡ o → AllByRecursion Sound (news_at lines one.items o)
   news-sound news one listed sound None h = tt
   news-sound news one listed sound (Some path) h = subst (λ (p : Names). AllByRecursion Sound (filter_map (new_in lines p) one.items)) (sym (path-is news one listed path sound h)) (items-sound one listed)
 
@@ -251,7 +251,7 @@ module _ {B : Type 0} (from to : Tree B) (is : IsPair from to) where
   grown-keeps (one ∷ listings) news x at = grown-keeps listings (news ++ news_at lines one.items (path_in news one.dir)) x (in-left news (news_at lines one.items (path_in news one.dir)) x at)
 
   -- new in a directory that was there
-  by-line : (t : Names) (n : List ℕ) (m d : Node B) (old : Names × Node B) → node_at to (t ++ n ∷ []) ≡ Some m → node_at to t ≡ Some d → place_of from m.id ≡ None → place_of from d.id ≡ Some old → IsIn (first_news lines) (item_at (t ++ n ∷ []) m)
+  pub by-line : (t : Names) (n : List ℕ) (m d : Node B) (old : Names × Node B) → node_at to (t ++ n ∷ []) ≡ Some m → node_at to t ≡ Some d → place_of from m.id ≡ None → place_of from d.id ≡ Some old → IsIn (first_news lines) (item_at (t ++ n ∷ []) m)
   by-line t n m d old at there new was =
       let w : (created from to (t ++ n ∷ [], m) ≡ Some (line_of Created (old.0 ++ n ∷ []) None m)) × (translate lines old.0 ++ n ∷ [] ≡ t ++ n ∷ []) = created-at from to is t n m d old.1 old.0 at there new was in
       in-filter_map (λ one. new_by lines one.kind one) lines (line_of Created (old.0 ++ n ∷ []) None m) (item_at (t ++ n ∷ []) m)
@@ -319,6 +319,10 @@ module _ {B : Type 0} (from to : Tree B) (is : IsPair from to) where
   renaming-ids = each-with_lines HasNode (filter_map (created from to) to) (flat_map (lines_from from to) from) (each-created HasNode to is.to_tree.sorted created-ids)
       (each-flat HasNode (lines_from from to) from is.from_tree.sorted (λ q m at. base-ids q m at (place_of to m.id)))
 
+  -- a node that wasn't there has no renaming line
+  pub no-line-of : (id : InodeId) → place_of from id ≡ None → renames_id lines id ≡ false
+  no-line-of id none = not-renamed from to is id none lines renaming-ids
+
   -- all that is new is found, where each new directory is listed
   pub new-is-found : (listings : List Listing) → AllByRecursion (IsListed from to) listings → InOrder lines (first_news lines) listings →
       ((t : Names) (d : Node B) → node_at to t ≡ Some d → place_of from d.id ≡ None → is_dir d ≡ true → (one : Listing) × IsIn listings one × (d.id.0 ≡ one.dir.0)) →
@@ -328,8 +332,5 @@ module _ {B : Type 0} (from to : Tree B) (is : IsPair from to) where
       (λ t n at. let d : (dir : Node B) × (node_at to t ≡ Some dir) × (is_dir dir ≡ true) = dir-above to is.to_tree t n m at in by_one (place_of from d.0.id)
       (λ old was. grown-keeps listings (first_news lines) (item_at (t ++ n ∷ []) m) (by-line t n m d.0 old at d.1 new was))
       (λ gone. let one : (one : Listing) × IsIn listings one × (d.0.id.0 ≡ one.dir.0) = all t d.0 d.1 gone d.2 in
-      by-listing listings (first_news lines) one.0 t n m d.0 one.1 listed (first-sound lines lines-tell) ordered at d.1 one.2 (no-line m.id new)))
+      by-listing listings (first_news lines) one.0 t n m d.0 one.1 listed (first-sound lines lines-tell) ordered at d.1 one.2 (no-line-of m.id new)))
       at
-    where
-      no-line : (id : InodeId) → place_of from id ≡ None → renames_id lines id ≡ false
-      no-line id none = not-renamed from to is id none lines renaming-ids

@@ -14,7 +14,7 @@ use Rattle.hs_plain.specs.Plan.{rest_below, goes_by, goes, outs, index_of}
 use Rattle.plan_laws.specs.Sight.{Sight, Placing, Back, New, target, targets, hits, unless, cuts, is_in, inside_or, at_top, made_sight, outs_done, puts_done, NoneBelow, Rises, IsNotIn, OutsGo, PutsGo, Ready, IsOther, NumberOnce, IsLinked, Stands}
 use Rattle.hs_plain.specs.Report.{same_place, last_of}
 use Rattle.plan_laws.specs.Placings.{placing_by, placing_at, placings}
-use Rattle.plan_laws.specs.Pair.{IsTree, IsPair, if_old, old_sight, Alike}
+use Rattle.plan_laws.specs.Pair.{IsTree, IsPair, HasSameBytes, if_old, old_sight, Alike}
 use Rattle.plan_laws.proofs.Paths.{by, by_one, rest-here, outside-none}
 use Rattle.plan_laws.proofs.Outs.{outs-outside, outs-inside, outs-go, outs-top}
 use Rattle.plan_laws.proofs.Puts.{puts-stand, puts-go, puts-top}
@@ -92,7 +92,7 @@ module _ {B : Type 0} where
         linked all (before ++ target put ∷ []) ps (e ∙ sym (append_assoc before (target put ∷ []) (targets ps))) rises,
       )
 
-module _ {B : Type 0} (from to : Tree B) (is : IsPair from to) (tmp : List ℕ) (number : ℕ → List ℕ) (once : (i j : ℕ) → number i ≡ number j → i ≡ j) (top : Node B) (top_dir : is_dir top ≡ true)
+module _ {B : Type 0} (from to : Tree B) (is : IsPair from to) (bytes : HasSameBytes from to) (tmp : List ℕ) (number : ℕ → List ℕ) (once : (i j : ℕ) → number i ≡ number j → i ≡ j) (top : Node B) (top_dir : is_dir top ≡ true)
     (from_free : node_at from (tmp ∷ []) ≡ None) (to_free : node_at to (tmp ∷ []) ≡ None) where
   -- the first tree with tmp
   abbrev pub begun : Sight (Node B)
@@ -153,7 +153,7 @@ module _ {B : Type 0} (from to : Tree B) (is : IsPair from to) (tmp : List ℕ) 
       (outs-outside tmp number once (outs from to) begun 0 q out ∙ ap (unless (hits (outs from to) q)) (begun-outside q out)
       ∙ ap (λ b. unless b (node_at from q)) (hits-cuts (outs from to) [] q (each-out (λ p. rest_below p [] ≡ None) (λ p x at go. not-below p (goes-below p x at go)))))
       (ap (λ b. unless b (old_sight from to q)) (hits-cuts (targets (placings from to)) [] q (no-root (placings from to))))
-      (alike-below (Alike from) (node_at from) (old_sight from to) (is_in (outs from to)) (is_in (targets (placings from to))) (differ from to is) q [] [] is.from_root is.to_root is.from_at root_old root_alike)
+      (alike-below (Alike from) (node_at from) (old_sight from to) (is_in (outs from to)) (is_in (targets (placings from to))) (differ from to is bytes) q [] [] is.from_root is.to_root is.from_at root_old root_alike)
     where
       not-below : (p : Names) → (p ≡ [] → ⊥) → rest_below p [] ≡ None
       not-below [] below = absurd (below refl)
@@ -165,7 +165,7 @@ module _ {B : Type 0} (from to : Tree B) (is : IsPair from to) (tmp : List ℕ) 
       no-root (New node above name ∷ ps) = (not-below (above ++ name ∷ []) (not_last above name), no-root ps)
 
       root_alike : Alike from is.from_root is.to_root
-      root_alike = alike-so from to is [] [] is.from_root is.to_root is.from_at is.to_at is.same_root
+      root_alike = alike-so from to is bytes [] [] is.from_root is.to_root is.from_at is.to_at is.same_root
 
       root_there : place_of from is.to_root.id ≡ Some ([], is.from_root)
       root_there = place_of-here from is.from_tree [] is.from_root is.to_root.id is.from_at (sym is.same_root)
@@ -246,7 +246,7 @@ module _ {B : Type 0} (from to : Tree B) (is : IsPair from to) (tmp : List ℕ) 
         m,
         so.0,
         ap (old_sight from to) (lands-at q m put (Back (index_of (outs from to) old.0) (parent_of q) (last_of q)) h is_put) ∙ dir-old from to is q m at (or_some (is_dir m) (is_some (place_of from m.id)) (ap is_some from_at)),
-        alike-so from to is old.0 q old.1 m so.0 at so.1,
+        alike-so from to is bytes old.0 q old.1 m so.0 at so.1,
         held old.0 (went-out q m old at from_at moves),
       ))
       (λ above name e none dir is_put. subst IsReady (sym is_put) (
@@ -324,15 +324,15 @@ module _ {B : Type 0} (from to : Tree B) (is : IsPair from to) (tmp : List ℕ) 
 
   -- each put is accepted
   pub all-puts-go : PutsGo is_dir tmp number outs_over (placings from to)
-  all-puts-go = puts-go (Alike from) (node_at from) (old_sight from to) (is_in (outs from to)) (is_in (targets (placings from to))) (differ from to is) tmp number once is_dir (λ a b alike. alike.same_kind) (old-dirs from to is)
+  all-puts-go = puts-go (Alike from) (node_at from) (old_sight from to) (is_in (outs from to)) (is_in (targets (placings from to))) (differ from to is bytes) tmp number once is_dir (λ a b alike. alike.same_kind) (old-dirs from to is)
       (placings from to) outs_over targets-outside all-numbers-once targets-linked all-ready outs-stand
 
   -- after the puts stands outside of tmp what the second tree has, but for new files
   pub puts-stand-all : Stands (Alike from) (old_sight from to) tmp (puts_done tmp number outs_over (placings from to)) []
-  puts-stand-all = puts-stand (Alike from) (node_at from) (old_sight from to) (is_in (outs from to)) (is_in (targets (placings from to))) (differ from to is) tmp number once
+  puts-stand-all = puts-stand (Alike from) (node_at from) (old_sight from to) (is_in (outs from to)) (is_in (targets (placings from to))) (differ from to is bytes) tmp number once
       (placings from to) outs_over targets-outside all-numbers-once targets-linked all-ready outs-stand
 
   -- tmp stands to the end
   pub top-stays : puts_done tmp number outs_over (placings from to) (tmp ∷ []) ≡ Some top
-  top-stays = puts-top (Alike from) (node_at from) (old_sight from to) (is_in (outs from to)) (is_in (targets (placings from to))) (differ from to is) tmp number once (placings from to) outs_over targets-outside
+  top-stays = puts-top (Alike from) (node_at from) (old_sight from to) (is_in (outs from to)) (is_in (targets (placings from to))) (differ from to is bytes) tmp number once (placings from to) outs_over targets-outside
       ∙ outs-top tmp number once (outs from to) begun 0 outs-outside-tmp ∙ begun-top

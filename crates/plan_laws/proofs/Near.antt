@@ -1,18 +1,17 @@
 -- A call whose paths are neither near a root changes nothing there: what the texts of its paths tell.
-use Rattle.std.proofs.Common.{◌≡◌, ℕ, Bool, true, false, bytes_eq, cond, Ok, Err, List, [], ◌∷◌, ◌++◌, drop, refl, ap, sym, ◌∙◌, append-nil}
-use Rattle.std.specs.Prelude.{Result}
+use Rattle.std.proofs.Common.{◌≡◌, ℕ, false, bytes_eq, Ok, Err, List, [], ◌∷◌, ◌++◌, drop, refl, ap, sym, ◌∙◌, append-nil}
 use Rattle.std.specs.List.{starts_with, before_first, position_or_len}
 use Rattle.std.proofs.lemmas.List.{take-append-drop}
 use Rattle.hs_types.specs.Names.{Names, is_snapshot_word}
-use Rattle.hs_types.specs.Paths.{components, is_bad_path, is_too_long, is_too_deep, tail_at, path_from, path_of}
+use Rattle.hs_types.specs.Paths.{components, tail_at, path_from, path_of}
 use Rattle.hs_types.specs.declared.path.Path.{Path}
 use Rattle.hs_types.specs.declared.refusal.Refusal.{Refusal}
-use Rattle.hs_types.specs.declared.refusal.Refusal.TheVariants.{BadPath, TooLong, TooDeep}
 use Rattle.hs_plain.specs.State.{plain_base, plain_of}
 use Rattle.hs_plain.specs.Modifying.{live_path}
 use Rattle.hs_plain.specs.Span.{is_near}
-use Rattle.hs_plain.specs.Places.{IsOutside}
+use Rattle.hs_plain.specs.inside.Places.{IsOutside}
 use Rattle.hs_plain.proofs.ValidAsked.{same_ok, ok_then}
+use Rattle.hs_plain.proofs.ValidNames.{path-read}
 use Rattle.hs_plain.proofs.ValidShapes.{true_false, under_test}
 use Rattle.hs_plain.proofs.ValidLists.{neither_first, neither_second}
 
@@ -23,15 +22,6 @@ pub record IsApart (path root : Names) : Type 0 where
 
 err_ok : {X : Type 0} {why : Refusal} {x : X} → Err why ≡ Ok x → ⊥
 err_ok h = cc
-
-path-from : (text : List ℕ) (path : Path) → path_of text ≡ Ok path → path_from (components text) ≡ path
-path-from text path h = by-bad (is_bad_path text) (is_too_long (components text)) (is_too_deep (components text)) h
-  where
-    by-bad : (bad long deep : Bool) → cond {A = Result Path Refusal} bad (Err BadPath) (cond long (Err TooLong) (cond deep (Err TooDeep) (Ok (path_from (components text))))) ≡ Ok path → path_from (components text) ≡ path
-    by-bad true long deep h = absurd (err_ok h)
-    by-bad false true deep h = absurd (err_ok h)
-    by-bad false false true h = absurd (err_ok h)
-    by-bad false false false h = same_ok h
 
 plain-so : (parts : Names) (path : Names) → plain_of (path_from parts) ≡ Ok path → path ≡ parts
 plain-so parts path h = by-rest (drop (position_or_len is_snapshot_word parts) parts) refl h
@@ -45,7 +35,7 @@ plain-so parts path h = by-rest (drop (position_or_len is_snapshot_word parts) p
 pub live-is : (text : List ℕ) (path : Names) → live_path text ≡ Ok path → path ≡ components text
 live-is text path h =
     let a : (x : Path) × (path_of text ≡ Ok x) × (plain_of x ≡ Ok path) = ok_then (path_of text) plain_of path h in
-    plain-so (components text) path (ap plain_of (path-from text a.0 a.1) ∙ a.2)
+    plain-so (components text) path (ap plain_of (path-read text a.0 a.1).from ∙ a.2)
 
 -- a path that isn't near a root is apart from it
 pub near-apart : (root_text text : List ℕ) (root path : Names) → root ≡ components root_text → is_near root_text text ≡ false → live_path text ≡ Ok path → IsApart path root

@@ -5,7 +5,7 @@ use Rattle.std.specs.Fmt.{decimal}
 use Rattle.std.proofs.lemmas.Bool.{ltb-true, ltb-false}
 use Rattle.std.proofs.lemmas.Fmt.{decimal_injective, length-decimal-le_succ}
 use Rattle.std.proofs.lemmas.List.{length-replicate}
-use Rattle.plan_laws.specs.Numbers.{number, number_below}
+use Rattle.plan_laws.specs.inside.Numbers.{number, number_below}
 use Rattle.plan_laws.proofs.Paths.{by}
 
 module _ (bound : ℕ) (once : (m n : ℕ) → m < bound → n < bound → decimal m ≡ decimal n → m ≡ n) (short : (n : ℕ) → n < bound → length (decimal n) ≤ n + 1) where

@@ -22,7 +22,7 @@ use Rattle.hs_plain.proofs.ValidDirs.{listed_so}
 use Rattle.hs_plain.proofs.ValidFollows.{live_tree, live_dirs}
 use Rattle.hs_plain.proofs.ValidSubtrees.{node_at-subtree, sorted-subtree}
 use Rattle.hs_plain.proofs.SameTree.{once-subtree}
-use Rattle.plan_laws.specs.Pair.{IsTree, IsPair}
+use Rattle.plan_laws.specs.Pair.{IsTree, IsPair, HasSameBytes}
 
 module _ {B : Type 0} (state : State B) (valid : IsValid state) (steady : HasSteadyStamps state) where
   -- a tree of a directory, all of whose nodes the state has
@@ -92,17 +92,23 @@ module _ {B : Type 0} (state : State B) (valid : IsValid state) (steady : HasSte
     root_dir = a.dir;
     same_root = a.same ∙ ap (λ (i : InodeId). i.0) same ∙ sym b.same;
     one_kind = λ p q m n at bt ids. kinds_so state valid m n (a.nodes p m at) (b.nodes q n bt) ids;
-    same_bytes = λ p q m n at bt ids stamps. ap (λ (x : Node B). x.body)
-        (steady.same_node m n (contains-in (all_nodes state) m (in-held state m (a.nodes p m at))) (contains-in (all_nodes state) n (in-held state n (b.nodes q n bt))) (inode_so m.id n.id (inode_test m.id n.id ids)) stamps);
   }
 
+  bytes-of : (id other : InodeId) (from to : Tree B) → IsOf id from → IsOf other to → HasSameBytes from to
+  bytes-of id other from to a b p q m n at bt ids stamps = ap (λ (x : Node B). x.body)
+      (steady.same_node m n (contains-in (all_nodes state) m (in-held state m (a.nodes p m at))) (contains-in (all_nodes state) n (in-held state n (b.nodes q n bt))) (inode_so m.id n.id (inode_test m.id n.id ids)) stamps)
+
   -- two snapshots of one directory
-  pub members-pair : (m n : Member B) → Contains state.members m → Contains state.members n → m.directory ≡ n.directory → IsPair m.tree n.tree
-  members-pair m n m_in n_in same = pair-of m.directory n.directory m.tree n.tree (member-of m (in-contains state.members m m_in)) (member-of n (in-contains state.members n n_in)) same
+  pub members-pair : (m n : Member B) → Contains state.members m → Contains state.members n → m.directory ≡ n.directory → IsPair m.tree n.tree × HasSameBytes m.tree n.tree
+  members-pair m n m_in n_in same =
+      let a : IsOf m.directory m.tree = member-of m (in-contains state.members m m_in) in
+      let b : IsOf n.directory n.tree = member-of n (in-contains state.members n n_in) in
+      (pair-of m.directory n.directory m.tree n.tree a b same, bytes-of m.directory n.directory m.tree n.tree a b)
 
   -- a snapshot and the current state of its directory
-  pub live-pair : (m : Member B) → Contains state.members m → (path : Names) (node : Node B) → node_at state.tree path ≡ Some node → m.directory ≡ node.id → IsPair m.tree (subtree state.tree path)
+  pub live-pair : (m : Member B) → Contains state.members m → (path : Names) (node : Node B) → node_at state.tree path ≡ Some node → m.directory ≡ node.id → IsPair m.tree (subtree state.tree path) × HasSameBytes m.tree (subtree state.tree path)
   live-pair m m_in path node there same =
       let at : In state.members m = in-contains state.members m m_in in
-      pair-of m.directory node.id m.tree (subtree state.tree path) (member-of m at)
-      (live-of path node there (ap (is_snapshottable state) (sym same) ∙ all_so (λ (member : Member B). is_snapshottable state member.directory) state.members valid.member_dirs m at)) same
+      let a : IsOf m.directory m.tree = member-of m at in
+      let b : IsOf node.id (subtree state.tree path) = live-of path node there (ap (is_snapshottable state) (sym same) ∙ all_so (λ (member : Member B). is_snapshottable state member.directory) state.members valid.member_dirs m at) in
+      (pair-of m.directory node.id m.tree (subtree state.tree path) a b same, bytes-of m.directory node.id m.tree (subtree state.tree path) a b)

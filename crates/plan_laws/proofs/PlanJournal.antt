@@ -1,5 +1,5 @@
 -- The calls of a plan, in any merging of its copies, in a journal.
-use Rattle.std.proofs.Common.{◌≡◌, ℕ, suc, ◌+◌, ◌<◌, ◌≤◌, ◌^◌, Bool, None, List, [], ◌∷◌, ◌++◌, map, length, refl, ap, sym, subst, ◌∙◌, arith}
+use Rattle.std.proofs.Common.{◌≡◌, ℕ, suc, ◌+◌, ◌<◌, ◌≤◌, ◌^◌, Bool, true, None, List, [], ◌∷◌, ◌++◌, map, length, refl, ap, sym, subst, ◌∙◌, arith}
 use Rattle.std.specs.List.{AllByRecursion}
 use Rattle.hs_types.specs.Names.{Names}
 use Rattle.hs_types.specs.declared.call.Call.{Call}
@@ -11,29 +11,30 @@ use Rattle.hs_plain.specs.declared.state.Body.TheVariants.{Dir}
 use Rattle.hs_plain.specs.Files.{plain_files}
 use Rattle.hs_plain.specs.Tree.{Tree, node_at, subtree}
 use Rattle.hs_plain.specs.Replay.{replay_from}
-use Rattle.hs_plain.specs.Plan.{outs, plan_of, move_calls, last_call, ArePlanCalls, AreEqual, text_below}
+use Rattle.hs_plain.specs.Valid.{has_names}
+use Rattle.hs_plain.specs.Plan.{outs, plan_of, move_calls, last_call, ArePlanCalls, plan_calls, bad_paths, AreEqual, text_below}
 use Rattle.plan_laws.specs.Sight.{Placing, Back, New}
 use Rattle.plan_laws.specs.Placings.{placing_at, placings, as_put}
 use Rattle.plan_laws.specs.Copies.{CopyCall, Create, Append, path_of_call}
-use Rattle.plan_laws.specs.Pair.{IsPair}
-use Rattle.plan_laws.specs.Steps.{Step, Fill, Drop, out_steps, put_step, plan_steps, step_call, StepLeads, HasFirst, AreOk}
+use Rattle.plan_laws.specs.Pair.{IsPair, HasSameBytes}
+use Rattle.plan_laws.specs.Steps.{Step, Fill, Drop, out_steps, put_step, plan_steps, step_call, StepLeads, HasFirst, NextIsOk, AreOk}
 use Rattle.plan_laws.specs.Target.{IsBegun, IsTarget}
-use Rattle.plan_laws.specs.PlanPaths.{LeadsBelow, path_of_put, PathsLead}
-use Rattle.plan_laws.specs.Numbers.{number}
+use Rattle.plan_laws.specs.inside.Numbers.{number}
+use Rattle.plan_laws.proofs.PlanTexts.{LeadsBelow, path_of_put, PathsLead, target-named, paths-lead}
 use Rattle.plan_laws.proofs.Numbers.{number-once, number-low}
 use Rattle.plan_laws.proofs.Lists.{each-append}
 use Rattle.plan_laws.proofs.Moves.{each-put, put-parts, went-out}
 use Rattle.plan_laws.proofs.Whole.{each-call}
 use Rattle.plan_laws.proofs.Planned.{index-low, placings-puts, IsByPath, by-path, pages, IsLow, steps-calls, in-copies}
-use Rattle.plan_laws.proofs.Journal.{all-ok, ends-equal}
+use Rattle.plan_laws.proofs.Journal.{all-ok, next-ok, ends-equal}
 
-module _ (from to : Tree (List ℕ)) (is : IsPair from to) (names : Names) (from_free : node_at from ((plan_of from to names).tmp ∷ []) ≡ None) (to_free : node_at to ((plan_of from to names).tmp ∷ []) ≡ None)
+module _ (from to : Tree (List ℕ)) (is : IsPair from to) (bytes : HasSameBytes from to) (names : Names) (from_free : node_at from ((plan_of from to names).tmp ∷ []) ≡ None) (to_free : node_at to ((plan_of from to names).tmp ∷ []) ≡ None)
     (few : length (outs from to) ≤ 2 ^ 64) (made : List Call) (root_text : List ℕ) (are : ArePlanCalls root_text (plan_of from to names) to made) where
   abbrev plan : Plan
   plan = plan_of from to names
 
   begun : IsBegun from to plan.tmp number
-  begun = record { pair = is; from_free = from_free; to_free = to_free; numbers_differ = number-once }
+  begun = record { pair = is; same_bytes = bytes; from_free = from_free; to_free = to_free; numbers_differ = number-once }
 
   by_path : IsByPath from to is root_text plan refl are.copied
   by_path = by-path from to is root_text plan refl are.copied are.merging
@@ -45,8 +46,8 @@ module _ (from to : Tree (List ℕ)) (is : IsPair from to) (names : Names) (from
   IsLowPut put = IsLow root_text plan (length (outs from to)) put
 
   low : AllByRecursion IsLowPut (placings from to)
-  low = each-put (placing_at from to) IsLowPut to is.to_tree.sorted (λ q m put at h. put-parts from to is plan.tmp number number-once top refl from_free to_free q m put h
-      (λ above name old e from_at moves is_put. subst IsLowPut (sym is_put) (index-low (outs from to) old.0 (went-out from to is plan.tmp number number-once top refl from_free to_free q m old at from_at moves)))
+  low = each-put (placing_at from to) IsLowPut to is.to_tree.sorted (λ q m put at h. put-parts from to is bytes plan.tmp number number-once top refl from_free to_free q m put h
+      (λ above name old e from_at moves is_put. subst IsLowPut (sym is_put) (index-low (outs from to) old.0 (went-out from to is bytes plan.tmp number number-once top refl from_free to_free q m old at from_at moves)))
       (λ above name e none dir is_put. subst IsLowPut (sym is_put) tt))
 
   same-calls : map (step_call (text_below root_text)) (plan_steps plan.tmp number from to by_path.made) ≡ made
@@ -99,15 +100,23 @@ module _ (from to : Tree (List ℕ)) (is : IsPair from to) (names : Names) (from
         from-none : (n : ℕ) → 0 + n ≤ n
         from-none n = omega arith
 
-    -- ---- in a journal
+  -- ---- in a journal
 
-    module _ (state : State (List ℕ)) (target : IsTarget state root_text root from) (is_own : Entry → Bool) (entries : List Entry) (first : HasFirst is_own root_text entries made) where
-      steps-first : HasFirst is_own root_text entries (map (step_call (text_below root_text)) (plan_steps plan.tmp number from to by_path.made))
-      steps-first = record { rest = first.rest; own = first.own ∙ sym same-calls; accepted = first.accepted; others = first.others }
+  module _ (to_named : has_names to ≡ true) (allowed : bad_paths (plan_calls root_text plan to) ≡ []) (root : Names) (state : State (List ℕ)) (target : IsTarget state root_text root from)
+      (is_own : Entry → Bool) (entries : List Entry) (first : HasFirst is_own root_text entries made) where
+    steps-first : HasFirst is_own root_text entries (map (step_call (text_below root_text)) (plan_steps plan.tmp number from to by_path.made))
+    steps-first = record { rest = first.rest; own = first.own ∙ sym same-calls; accepted = first.accepted; others = first.others }
 
-      pub plan-ok : AreOk is_own state entries
-      plan-ok = all-ok from to plan.tmp number begun (pages from to is root_text plan refl) by_path.made by_path.merging state root_text root target (text_below root_text) steps-lead is_own entries steps-first
+    all-lead : AllByRecursion (StepLeads (text_below root_text) root) (plan_steps plan.tmp number from to by_path.made)
+    all-lead = steps-lead root (paths-lead from to names root_text root target.leads (target-named state root_text root from target) to_named allowed)
 
-      pub plan-equal : first.rest ≡ [] → AreEqual to (subtree (replay_from plain_files state entries).tree root)
-      unfolding steps-first
-      plan-equal none = ends-equal from to plan.tmp number begun (pages from to is root_text plan refl) by_path.made by_path.merging state root_text root target (text_below root_text) steps-lead is_own entries steps-first none
+    pub plan-ok : AreOk is_own state entries
+    plan-ok = all-ok from to plan.tmp number begun (pages from to is root_text plan refl) by_path.made by_path.merging state root_text root target (text_below root_text) all-lead is_own entries steps-first
+
+    pub plan-next : NextIsOk (replay_from plain_files state entries) first.rest
+    unfolding steps-first
+    plan-next = next-ok from to plan.tmp number begun (pages from to is root_text plan refl) by_path.made by_path.merging state root_text root target (text_below root_text) all-lead is_own entries steps-first
+
+    pub plan-equal : first.rest ≡ [] → AreEqual to (subtree (replay_from plain_files state entries).tree root)
+    unfolding steps-first
+    plan-equal none = ends-equal from to plan.tmp number begun (pages from to is root_text plan refl) by_path.made by_path.merging state root_text root target (text_below root_text) all-lead is_own entries steps-first none

@@ -25,7 +25,7 @@ use Rattle.plan_laws.specs.Placings.{placing_by, placing_at, placings, as_put}
 use Rattle.plan_laws.specs.Pair.{IsPair}
 use Rattle.plan_laws.specs.Copies.{CopyCall, path_of_call, is_at, joined, appends, copy_calls, IsMerging}
 use Rattle.plan_laws.specs.Steps.{Fill, Drop, out_steps, put_step, plan_steps, copy_call, step_call}
-use Rattle.plan_laws.specs.Numbers.{number}
+use Rattle.plan_laws.specs.inside.Numbers.{number}
 use Rattle.plan_laws.proofs.Paths.{by, by_one, rest-here}
 use Rattle.plan_laws.proofs.Places.{path_of_place, last_of-last, place_of-here, not_root}
 use Rattle.plan_laws.proofs.Lists.{same-so, same-here}
@@ -121,11 +121,11 @@ map-filter job g h test (e ∷ es) sorted same =
       | false ↦ rest
     ]
 
-map-map : {X Y Z : Type 0} (f : Y → Z) (g : X → Y) (xs : List X) → map f (map g xs) ≡ map (λ x. f (g x)) xs
+pub map-map : {X Y Z : Type 0} (f : Y → Z) (g : X → Y) (xs : List X) → map f (map g xs) ≡ map (λ x. f (g x)) xs
 map-map f g [] = refl
 map-map f g (x ∷ xs) = ap (λ zs. f (g x) ∷ zs) (map-map f g xs)
 
-map-onto : {X Y : Type 0} (f : X → Y) (xs ys : List X) → map f (xs ++ ys) ≡ map f xs ++ map f ys
+pub map-onto : {X Y : Type 0} (f : X → Y) (xs ys : List X) → map f (xs ++ ys) ≡ map f xs ++ map f ys
 map-onto f [] ys = refl
 map-onto f (x ∷ xs) ys = ap (λ zs. f x ∷ zs) (map-onto f xs ys)
 

@@ -15,7 +15,7 @@ use Rattle.hs_plain.specs.Files.{Files}
 use Rattle.hs_plain.specs.Tree.{node_at, parent_of, is_under, same_inode, place_of}
 use Rattle.hs_plain.specs.State.{new_dir, is_snapshottable, has_snapshots}
 use Rattle.hs_plain.specs.Valid.{IsValid}
-use Rattle.hs_plain.specs.Places.{IsOutside}
+use Rattle.hs_plain.specs.inside.Places.{IsOutside}
 use Rattle.hs_plain.specs.Modifying.{mkdir_at, create_at, append_at, delete_at, rename_at, set_mode_at}
 use Rattle.hs_plain.specs.Snapshotting.{allow_at, disallow_at, snap_at, snap_del_at, snap_ren_at}
 use Rattle.hs_plain.specs.Change.{stamped, without, moved, new_file, with_node, with_file, made_dir, made_file, appended, removed, renamed, with_mode, allowed, disallowed, snapped, unsnapped, resnapped, change, changed_if, takes_effect, after, ticked}

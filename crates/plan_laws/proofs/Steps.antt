@@ -1,5 +1,5 @@
 -- The steps of a plan are accepted and lead to the second tree, whatever entries that don't touch the root stand between.
-use Rattle.std.proofs.Common.{◌≡◌, ℕ, ◌+◌, Bool, true, false, cond, Option, Some, None, Ok, List, [], ◌∷◌, ◌++◌, map, refl, ap, sym, subst, ◌∙◌, append-nil, append_assoc}
+use Rattle.std.proofs.Common.{◌≡◌, ℕ, ◌+◌, Bool, true, false, cond, Option, Some, None, is_some, Ok, List, [], ◌∷◌, ◌++◌, map, refl, ap, sym, subst, ◌∙◌, append-nil, append_assoc}
 use Rattle.std.specs.Prelude.{◌&&◌, not}
 use Rattle.std.specs.List.{filter, AllByRecursion}
 use Rattle.std.proofs.lemmas.List.{append_cancel_left}
@@ -18,7 +18,7 @@ use Rattle.hs_plain.specs.Asked.{Asked}
 use Rattle.hs_plain.specs.Files.{plain_files}
 use Rattle.hs_plain.specs.Tree.{Tree, node_at, is_dir_body}
 use Rattle.hs_plain.specs.Valid.{IsValid}
-use Rattle.hs_plain.specs.Places.{IsOutside}
+use Rattle.hs_plain.specs.inside.Places.{IsOutside}
 use Rattle.hs_plain.specs.Modifying.{mkdir_at, create_at, append_at, delete_at, rename_at}
 use Rattle.hs_plain.specs.Answer.{answer, is_ok_reply, is_modifying, reply_to, replied, made_reply}
 use Rattle.hs_plain.specs.Change.{after, change, changed_if, takes_effect, is_accepted, ticked}
@@ -32,10 +32,10 @@ use Rattle.hs_plain.proofs.ValidShapes.{Shape}
 use Rattle.hs_plain.proofs.Validity.{valid-after}
 use Rattle.plan_laws.specs.Sight.{moved_sight, made_sight, outs_done, Placing, Back, New, targets, puts_done, IsNotIn, OutsGo, PutsGo}
 use Rattle.plan_laws.specs.Placings.{placing_at, placings}
-use Rattle.plan_laws.specs.Pair.{IsTree, IsPair}
+use Rattle.plan_laws.specs.Pair.{IsTree, IsPair, HasSameBytes}
 use Rattle.plan_laws.specs.Copies.{Content, Contents, CopyCall, Create, Append, path_of_call, call_done, calls_done, CallGoes, CallsGo, is_dir_seen, is_file_seen, without_sight, content_of, content_put, after_outs, after_puts, after_sync, IsMerging, SyncGoes}
 use Rattle.plan_laws.specs.Bridge.{held}
-use Rattle.plan_laws.specs.Steps.{Step, Move, Make, Fill, Drop, step_done, steps_done, StepGoes, StepsGo, out_steps, put_step, plan_steps, step_call, StepLeads, own_calls, AreOk}
+use Rattle.plan_laws.specs.Steps.{Step, Move, Make, Fill, Drop, step_done, steps_done, StepGoes, StepsGo, out_steps, put_step, plan_steps, step_call, StepLeads, own_calls, NextIsOk, AreOk}
 use Rattle.plan_laws.proofs.Paths.{by, outside-none, outside-other}
 use Rattle.plan_laws.proofs.Child.{dir_body}
 use Rattle.plan_laws.proofs.Moves.{outs-outside-tmp, targets-outside, each-put, put-parts}
@@ -120,7 +120,7 @@ module _ (text : Names → List ℕ) (root : Names) (id : InodeId) (state : Stat
   abbrev Next : Entry → Contents → Type 0
   Next entry seen = (held (after plain_files state entry) root ≡ seen) × IsRootAt (after plain_files state entry) root id
 
-  own-entry : (entry : Entry) (step : Step) → entry.call ≡ step_call text step → is_accepted entry.kind ≡ true → StepLeads text root step → StepGoes (held state root) step →
+  pub own-entry : (entry : Entry) (step : Step) → entry.call ≡ step_call text step → is_accepted entry.kind ≡ true → StepLeads text root step → StepGoes (held state root) step →
       (is_ok_reply (answer state entry.call) ≡ true) × Next entry (step_done (held state root) step)
   own-entry entry step is_call accepted leads goes = (
     ap (λ call. is_ok_reply (answer state call)) is_call ∙ step-ok step leads goes,
@@ -169,7 +169,7 @@ module _ (text : Names → List ℕ) (root : Names) (id : InodeId) (state : Stat
 
 module _ (text : Names → List ℕ) (root_text : List ℕ) (root : Names) (root_is : root ≡ components root_text) (id : InodeId) (is_own : Entry → Bool) where
   abbrev pub Leads : List Entry → List Step → List Call → State (List ℕ) → Contents → Type 0
-  Leads entries steps rest state seen = AreOk is_own state entries × ((rest ≡ [] → held (replay_from plain_files state entries) root ≡ steps_done seen steps) × IsRootAt (replay_from plain_files state entries) root id)
+  Leads entries steps rest state seen = AreOk is_own state entries × NextIsOk (replay_from plain_files state entries) rest × ((rest ≡ [] → held (replay_from plain_files state entries) root ≡ steps_done seen steps) × IsRootAt (replay_from plain_files state entries) root id)
 
   no-cons : {call : Call} {more : List Call} → call ∷ more ≡ [] → ⊥
   no-cons h = cc
@@ -184,7 +184,7 @@ module _ (text : Names → List ℕ) (root_text : List ℕ) (root : Names) (root
       let goes : StepGoes (held state root) step = subst (λ (c : Contents). StepGoes c step) (sym sees) go.0 in
       let done : (is_ok_reply (answer state entry.call) ≡ true) × ((held (after plain_files state entry) root ≡ step_done (held state root) step) × IsRootAt (after plain_files state entry) root id) = own-entry text root id state valid at entry step (heads e) accepted leads.0 goes in
       let more : Leads entries steps rest (after plain_files state entry) (step_done seen step) = next steps (step_done seen step) done.1.1 (done.1.0 ∙ ap (λ (c : Contents). step_done c step) sees) (tails e) leads.1 go.1 in
-      (((λ _. done.0), more.0), more.1)
+      (((λ _. done.0), more.0), more.1, more.2)
     where
       heads : {a b : Call} {xs ys : List Call} → a ∷ xs ≡ b ∷ ys → a ≡ b
       heads h = cc
@@ -196,8 +196,12 @@ module _ (text : Names → List ℕ) (root_text : List ℕ) (root : Names) (root
       own_calls is_own entries ++ rest ≡ map (step_call text) steps → AllByRecursion (StepLeads text root) steps → StepsGo seen steps →
       AllByRecursion (λ entry. is_own entry ≡ true → is_accepted entry.kind ≡ true) entries → AllByRecursion (λ entry. is_own entry ≡ false → touches root_text entry ≡ false) entries →
       Leads entries steps rest state seen
-  all-entries [] [] rest state seen valid at sees e leads go accepted others = (tt, ((λ none. sees), at))
-  all-entries [] (step ∷ steps) rest state seen valid at sees e leads go accepted others = (tt, ((λ none. absurd (no-cons (sym e ∙ none))), at))
+  all-entries [] [] rest state seen valid at sees e leads go accepted others = (tt, subst (NextIsOk state) (sym e) tt, ((λ none. sees), at))
+  all-entries [] (step ∷ steps) rest state seen valid at sees e leads go accepted others = (
+    tt,
+    subst (NextIsOk state) (sym e) (step-ok text root id state valid at step leads.0 (subst (λ (c : Contents). StepGoes c step) (sym sees) go.0)),
+    ((λ none. absurd (no-cons (sym e ∙ none))), at),
+  )
   all-entries (entry ∷ entries) steps rest state seen valid at sees e leads go accepted others = by (is_own entry)
       (λ own. own-case entry entries steps rest state seen valid at sees
       (ap (λ b. map (λ (one : Entry). one.call) (cond b (entry ∷ filter is_own entries) (filter is_own entries)) ++ rest) (sym own) ∙ e) leads go (accepted.0 own)
@@ -206,7 +210,7 @@ module _ (text : Names → List ℕ) (root_text : List ℕ) (root : Names) (root
       let done : (held (after plain_files state entry) root ≡ held state root) × IsRootAt (after plain_files state entry) root id = other-entry text root id state valid at root_text root_is entry (others.0 other) in
       let more : Leads entries steps rest (after plain_files state entry) seen = all-entries entries steps rest (after plain_files state entry) seen (valid-after state valid plain_files entry) done.1 (done.0 ∙ sees)
       (ap (λ b. map (λ (one : Entry). one.call) (cond b (entry ∷ filter is_own entries) (filter is_own entries)) ++ rest) (sym other) ∙ e) leads go accepted.1 others.1 in
-      (((λ own. absurd (true_false own other)), more.0), more.1))
+      (((λ own. absurd (true_false own other)), more.0), more.1, more.2))
 
 -- ---- the steps of a plan
 
@@ -260,10 +264,10 @@ fills-steps : (cs : List CopyCall) (seen : Contents) → CallsGo seen cs → Ste
 fills-steps [] seen go = tt
 fills-steps (c ∷ cs) seen go = (go.0, fills-steps cs (call_done seen c) go.1)
 
-module _ (tmp : List ℕ) (number : ℕ → List ℕ) (from to : Tree (List ℕ)) (is : IsPair from to) (once : (i j : ℕ) → number i ≡ number j → i ≡ j) (from_free : node_at from (tmp ∷ []) ≡ None) (to_free : node_at to (tmp ∷ []) ≡ None)
+module _ (tmp : List ℕ) (number : ℕ → List ℕ) (from to : Tree (List ℕ)) (is : IsPair from to) (bytes : HasSameBytes from to) (once : (i j : ℕ) → number i ≡ number j → i ≡ j) (from_free : node_at from (tmp ∷ []) ≡ None) (to_free : node_at to (tmp ∷ []) ≡ None)
     (pages : Names → List (List ℕ)) (copies : List CopyCall) (merging : IsMerging from to pages copies) (target : Contents) (equal : (q : Names) → target q ≡ content_of (node_at from q)) where
   goes : SyncGoes tmp number from to copies target
-  goes = sync-goes from to is tmp number once from_free to_free target equal pages copies merging
+  goes = sync-goes from to is bytes tmp number once from_free to_free target equal pages copies merging
 
   abbrev top : Node (List ℕ)
   top = record { id = record { 0 = 0 }; mode = 0; stamp = 0; body = Dir }
@@ -272,9 +276,13 @@ module _ (tmp : List ℕ) (number : ℕ → List ℕ) (from to : Tree (List ℕ)
   dir-seen None h = absurd (true_false h refl)
   dir-seen (Some d) h = (d, refl, h)
 
+  some-dir : (o : Option Content) → is_dir_seen o ≡ true → is_some o ≡ true
+  some-dir None h = absurd (true_false h refl)
+  some-dir (Some d) h = refl
+
   new-dirs : AllByRecursion (IsDirNew tmp number) (placings from to)
   new-dirs = each-put (placing_at from to) (IsDirNew tmp number) to is.to_tree.sorted
-      (λ q m put at h. put-parts from to is tmp number once top refl from_free to_free q m put h
+      (λ q m put at h. put-parts from to is bytes tmp number once top refl from_free to_free q m put h
       (λ above name old e from_at moves is_put. subst (IsDirNew tmp number) (sym is_put) tt)
       (λ above name e none dir is_put. subst (IsDirNew tmp number) (sym is_put) (dir_body from to is m.body dir)))
 
@@ -288,13 +296,13 @@ module _ (tmp : List ℕ) (number : ℕ → List ℕ) (from to : Tree (List ℕ)
       let copied : calls_done (after_puts tmp number from to target) copies ≡ steps_done (after_puts tmp number from to target) (map Fill copies) = sym (fills-done copies (after_puts tmp number from to target)) in (
         record { above_dir = dir-seen (target []) goes.root; free = goes.tmp_free },
         steps-append (out_steps tmp number 0 (outs from to)) (map (put_step tmp number) (placings from to) ++ (map Fill copies ++ Drop tmp ∷ [])) begun
-            (outs-steps tmp number (outs from to) begun 0 (outs-outside-tmp from to is tmp number once top refl from_free to_free) goes.outs_go)
+            (outs-steps tmp number (outs from to) begun 0 (outs-outside-tmp from to is bytes tmp number once top refl from_free to_free) goes.outs_go)
             (subst (λ (c : Contents). StepsGo c (map (put_step tmp number) (placings from to) ++ (map Fill copies ++ Drop tmp ∷ []))) (sym outs_same)
             (steps-append (map (put_step tmp number) (placings from to)) (map Fill copies ++ Drop tmp ∷ []) (after_outs tmp number from to target)
-            (puts-steps tmp number (placings from to) (after_outs tmp number from to target) new-dirs (targets-outside from to is tmp number once top refl from_free to_free) goes.puts_go)
+            (puts-steps tmp number (placings from to) (after_outs tmp number from to target) new-dirs (targets-outside from to is bytes tmp number once top refl from_free to_free) goes.puts_go)
             (subst (λ (c : Contents). StepsGo c (map Fill copies ++ Drop tmp ∷ [])) (sym puts_same)
             (steps-append (map Fill copies) (Drop tmp ∷ []) (after_puts tmp number from to target) (fills-steps copies (after_puts tmp number from to target) goes.copies_go)
-            (ap (λ (c : Contents). is_dir_seen (c (tmp ∷ []))) (sym copied) ∙ goes.tmp_there, tt))))),
+            (ap (λ (c : Contents). is_some (c (tmp ∷ []))) (sym copied) ∙ some-dir (calls_done (after_puts tmp number from to target) copies (tmp ∷ [])) goes.tmp_there, tt))))),
       )
 
   pub plan-done : steps_done target (plan_steps tmp number from to copies) ≡ after_sync tmp number from to copies target

@@ -1,6 +1,9 @@
 -- The name of the temporary directory is no child of either root.
 use Rattle.std.proofs.Common.{◌≡◌, ℕ, zero, suc, ◌+◌, ◌<◌, ◌≤◌, ◌^◌, true, false, ◌||◌, bytes_eq, cond, Option, Some, None, List, [], ◌∷◌, ◌++◌, map, length, refl, ap, sym, ◌∙◌, append-nil, arith}
+use Rattle.std.specs.Prelude.{◌==◌, nat_lt}
 use Rattle.std.specs.Fmt.{decimal}
+use Rattle.std.proofs.lemmas.Bool.{ltb-true, ltb-false}
+use Rattle.std.proofs.lemmas.Bool.Decides.{Decides-eqb}
 use Rattle.std.proofs.lemmas.Fmt.{decimal_injective, decimal_nonempty}
 use Rattle.std.proofs.lemmas.List.{append_cancel_left}
 use Rattle.std.proofs.lemmas.Slice.Eq.{bytes_eq-Decides}
@@ -12,6 +15,7 @@ use Rattle.hs_plain.specs.Tree.{Tree, node_at, listing, item_of}
 use Rattle.hs_plain.specs.Plan.{tmp_word, tmp_name, has_name, first_free, tmp_for, root_names, AreEqual}
 use Rattle.hs_plain.proofs.ValidShapes.{none_some, true_false}
 use Rattle.plan_laws.specs.Copies.{content_of}
+use Rattle.plan_laws.specs.Temporary.{IsFirstFree}
 use Rattle.plan_laws.proofs.Paths.{by, by_one, bytes_eq-itself, differs}
 use Rattle.plan_laws.proofs.Child.{or_second, or_split}
 use Rattle.plan_laws.proofs.Elements.{IsIn}
@@ -77,6 +81,37 @@ tmp-free names few = free-name (names.target ++ names.source) (names.target ++ n
   where
     low : (n : ℕ) → n < 2 ^ 64 → 0 + n < 2 ^ 64
     low n few = omega arith
+
+-- the number of the name that is chosen, before which all are taken
+record IsChosen (taken : Names) (more k : ℕ) : Type 0 where
+  number : ℕ
+  from : k ≤ number
+  is : first_free taken more k ≡ tmp_name number
+  earlier : (other : ℕ) → k ≤ other → other < number → has_name taken (tmp_name other) ≡ true
+
+chosen : (taken : Names) (more k : ℕ) → IsChosen taken more k
+chosen taken zero k = record { number = k; from = omega arith; is = refl; earlier = λ other le less. absurd (omega (arith, le, less)) }
+chosen taken (suc more) k = by (has_name taken (tmp_name k))
+    (λ t. let rest : IsChosen taken more (k + 1) = chosen taken more (k + 1) in record {
+      number = rest.number;
+      from = omega (arith, rest.from);
+      is = ap (λ b. cond b (first_free taken more (k + 1)) (tmp_name k)) t ∙ rest.is;
+      earlier = λ other le less. by_same k other (λ e. ap (λ n. has_name taken (tmp_name n)) (sym e) ∙ t) (λ ne. rest.earlier other (above k other le ne) less);
+    })
+    (λ f. record { number = k; from = omega arith; is = ap (λ b. cond b (first_free taken more (k + 1)) (tmp_name k)) f; earlier = λ other le less. absurd (omega (arith, le, less)) })
+  where
+    by_same : {P : Type 0} (m n : ℕ) → (m ≡ n → P) → ((m ≡ n → ⊥) → P) → P
+    by_same m n same other = by (m == n) (λ t. same ((Decides-eqb m n).0 t)) (λ f. other (λ e. true_false ((Decides-eqb m n).1 e) f))
+
+    above : (m n : ℕ) → m ≤ n → (m ≡ n → ⊥) → m + 1 ≤ n
+    above m n le ne = by (nat_lt m n)
+        (λ t. let less : m < n = ltb-true m n t in omega arith)
+        (λ f. let high : n ≤ m = ltb-false m n f in absurd (ne (omega arith)))
+
+pub tmp-first : (names : RootNames) → length (names.target ++ names.source) < 2 ^ 64 → IsFirstFree (names.target ++ names.source) (tmp_for names)
+tmp-first names few =
+    let one : IsChosen (names.target ++ names.source) (length (names.target ++ names.source)) 0 = chosen (names.target ++ names.source) (length (names.target ++ names.source)) 0 in
+    record { number = one.number; is = one.is; free = tmp-free names few; earlier = λ other less. one.earlier other (omega arith) less }
 
 -- ---- the children of a root
 

@@ -14,7 +14,7 @@ use Rattle.hs_plain.specs.Report.{same_place, has_id, id_above, line_of, line_if
 use Rattle.hs_types.specs.declared.reply.LineKind.TheVariants.{Deleted, Renamed, Modified}
 use Rattle.hs_types.specs.declared.reply.Line.{Line}
 use Rattle.hs_plain.specs.Plan.{goes_by, goes, outs}
-use Rattle.plan_laws.specs.Pair.{IsTree, IsPair}
+use Rattle.plan_laws.specs.Pair.{IsTree, IsPair, HasSameBytes}
 use Rattle.plan_laws.specs.Translated.{is_out_line, line_path}
 use Rattle.plan_laws.proofs.Paths.{by_one}
 use Rattle.plan_laws.proofs.Places.{path_of_place, place_of-so, place_of-here, none-below, id_above-at}
@@ -139,7 +139,7 @@ module _ {B : Type 0} where
           no-cons : {x : Line} {zs : List Line} → x ∷ zs ≡ [] → ⊥
           no-cons h = cc
 
-module _ {B : Type 0} (from to : Tree B) (is : IsPair from to) (none : report from to ≡ []) where
+module _ {B : Type 0} (from to : Tree B) (is : IsPair from to) (bytes : HasSameBytes from to) (none : report from to ≡ []) where
   all-none : (filter_map (created from to) to ≡ []) × (flat_map (lines_from from to) from ≡ [])
   all-none = none-more (filter_map (created from to) to) (flat_map (lines_from from to) from) none
 
@@ -182,7 +182,7 @@ module _ {B : Type 0} (from to : Tree B) (is : IsPair from to) (none : report fr
   same-below : (r p : Names) (a b : Node B) → node_at from p ≡ Some a → node_at to p ≡ Some b → a.id.0 ≡ b.id.0 → option_map (λ (x : Node B). x.body) (node_at from (p ++ r)) ≡ option_map (λ (x : Node B). x.body) (node_at to (p ++ r))
   same-below [] p a b here there same =
       ap (λ (q : Names). option_map (λ (x : Node B). x.body) (node_at from q)) (append-nil p) ∙ ap (option_map (λ (x : Node B). x.body)) here
-      ∙ ap (λ x. Some x) (is.same_bytes p p a b here there same stamps)
+      ∙ ap (λ x. Some x) (bytes p p a b here there same stamps)
       ∙ sym (ap (λ (q : Names). option_map (λ (x : Node B). x.body) (node_at to q)) (append-nil p) ∙ ap (option_map (λ (x : Node B). x.body)) there)
     where
       stamps : a.stamp ≡ b.stamp

@@ -10,7 +10,7 @@ use Rattle.hs_plain.proofs.ValidShapes.{none_some, same_some, true_false, by_las
 use Rattle.hs_plain.specs.Plan.{rest_below, outs, is_other, is_copied}
 use Rattle.plan_laws.specs.Sight.{Sight, inside_or, made_sight, outs_done, puts_done, Both, OutsGo, PutsGo}
 use Rattle.plan_laws.specs.Placings.{placings}
-use Rattle.plan_laws.specs.Pair.{IsPair, if_old, old_sight, Alike}
+use Rattle.plan_laws.specs.Pair.{IsPair, HasSameBytes, if_old, old_sight, Alike}
 use Rattle.plan_laws.specs.Copies.{Content, Contents, CopyCall, path_of_call, is_at, all_here, is_dir_seen, FitHere, calls_done, CallsGo, IsMerging, content_of, content_put, after_outs, after_puts, after_sync, SyncGoes}
 use Rattle.plan_laws.proofs.Paths.{by, by_one, rest-so}
 use Rattle.plan_laws.proofs.Places.{dir-above}
@@ -37,7 +37,7 @@ each-call P (call ∷ calls) all = (
       | false ↦ λ e. e
     ]) e
 
-module _ (from to : Tree (List ℕ)) (is : IsPair from to) (tmp : List ℕ) (number : ℕ → List ℕ) (once : (i j : ℕ) → number i ≡ number j → i ≡ j)
+module _ (from to : Tree (List ℕ)) (is : IsPair from to) (bytes : HasSameBytes from to) (tmp : List ℕ) (number : ℕ → List ℕ) (once : (i j : ℕ) → number i ≡ number j → i ≡ j)
     (from_free : node_at from (tmp ∷ []) ≡ None) (to_free : node_at to (tmp ∷ []) ≡ None)
     (target : Contents) (equal : (q : Names) → target q ≡ content_of (node_at from q))
     (pages : Names → List (List ℕ)) (calls : List CopyCall) (merging : IsMerging from to pages calls) where
@@ -66,7 +66,7 @@ module _ (from to : Tree (List ℕ)) (is : IsPair from to) (tmp : List ℕ) (num
   puts-same = ap (λ (s : Contents). puts_done tmp number s (map content_put (placings from to))) outs-same ∙ sym (puts-through body tmp number (placings from to) over_outs)
 
   stands : (q : Names) → rest_below (tmp ∷ []) q ≡ None → Both (Alike from) (over_puts q) (old_sight from to q)
-  stands = puts-stand-all from to is tmp number once top refl from_free to_free
+  stands = puts-stand-all from to is bytes tmp number once top refl from_free to_free
 
   abbrev seen : Contents
   seen = after_puts tmp number from to target
@@ -83,7 +83,7 @@ module _ (from to : Tree (List ℕ)) (is : IsPair from to) (tmp : List ℕ) (num
 
   to-outside : (q : Names) (m : Node (List ℕ)) → node_at to q ≡ Some m → rest_below (tmp ∷ []) q ≡ None
   to-outside q m at = by_one (rest_below (tmp ∷ []) q)
-      (λ r below. absurd (none_some (sym (none-under from to is tmp number once top refl from_free to_free to is.to_tree r (tmp ∷ []) to_free) ∙ ap (node_at to) (sym (rest-so (tmp ∷ []) q r below)) ∙ at)))
+      (λ r below. absurd (none_some (sym (none-under from to is bytes tmp number once top refl from_free to_free to is.to_tree r (tmp ∷ []) to_free) ∙ ap (node_at to) (sym (rest-so (tmp ∷ []) q r below)) ∙ at)))
       (λ none. none)
 
   file-copied : (q : Names) (m : Node (List ℕ)) → is_copied from (q, m) ≡ true → is_dir m ≡ false
@@ -168,7 +168,7 @@ module _ (from to : Tree (List ℕ)) (is : IsPair from to) (tmp : List ℕ) (num
   pub sync-equal : (q : Names) → after_sync tmp number from to calls target q ≡ content_of (node_at to q)
   sync-equal q = by_one (rest_below (tmp ∷ []) q)
       (λ r below. ap (λ o. inside_or o (λ rest. None) (calls_done seen calls q)) below
-      ∙ sym (ap content_of (ap (node_at to) (rest-so (tmp ∷ []) q r below) ∙ none-under from to is tmp number once top refl from_free to_free to is.to_tree r (tmp ∷ []) to_free)))
+      ∙ sym (ap content_of (ap (node_at to) (rest-so (tmp ∷ []) q r below) ∙ none-under from to is bytes tmp number once top refl from_free to_free to is.to_tree r (tmp ∷ []) to_free)))
       (λ none. ap (λ o. inside_or o (λ rest. None) (calls_done seen calls q)) none ∙ copied-at q none)
 
   pub sync-goes : SyncGoes tmp number from to calls target
@@ -176,9 +176,9 @@ module _ (from to : Tree (List ℕ)) (is : IsPair from to) (tmp : List ℕ) (num
     root = ap is_dir_seen (equal [] ∙ ap content_of is.from_at) ∙ is.root_dir;
     tmp_free = equal (tmp ∷ []) ∙ ap content_of from_free;
     outs_go = subst (λ (s : Contents). OutsGo is_dir_body tmp number s 0 (outs from to)) (sym begun-same)
-        (outs-go-through body is_dir is_dir_body (λ x. refl) tmp number (outs from to) (made_sight (node_at from) (tmp ∷ []) top) 0 (all-outs-go from to is tmp number once top refl from_free to_free));
+        (outs-go-through body is_dir is_dir_body (λ x. refl) tmp number (outs from to) (made_sight (node_at from) (tmp ∷ []) top) 0 (all-outs-go from to is bytes tmp number once top refl from_free to_free));
     puts_go = subst (λ (s : Contents). PutsGo is_dir_body tmp number s (map content_put (placings from to))) (sym outs-same)
-        (puts-go-through body is_dir is_dir_body (λ x. refl) tmp number (placings from to) over_outs (all-puts-go from to is tmp number once top refl from_free to_free));
+        (puts-go-through body is_dir is_dir_body (λ x. refl) tmp number (placings from to) over_outs (all-puts-go from to is bytes tmp number once top refl from_free to_free));
     copies_go = copies-go;
-    tmp_there = dirs-kept calls seen (tmp ∷ []) copies-go (ap is_dir_seen (seen-at (tmp ∷ []) ∙ ap content_of (top-stays from to is tmp number once top refl from_free to_free)));
+    tmp_there = dirs-kept calls seen (tmp ∷ []) copies-go (ap is_dir_seen (seen-at (tmp ∷ []) ∙ ap content_of (top-stays from to is bytes tmp number once top refl from_free to_free)));
   }

@@ -9,5 +9,10 @@ pub mod Listed
 pub mod Bridge
 pub mod Steps
 pub mod Target
-pub mod Numbers
-pub mod PlanPaths
+pub mod Undisturbed
+pub mod Temporary
+pub mod inside
+pub mod SightLaws
+pub mod PlanLaws
+pub mod LineLaws
+pub mod JournalLaws

@@ -1,4 +1,4 @@
--- What is new, as lines and listings tell it, and the plan from both.
+-- What is new, as lines and listings tell it.
 use Rattle.std.specs.Prelude.{◌≡◌, Bool, true, if◌then◌else◌, List, [], ◌∷◌, ◌++◌, Option, Some, None, is_some}
 use Rattle.std.specs.List.{filter_map}
 use Rattle.hs_types.specs.Names.{Names}

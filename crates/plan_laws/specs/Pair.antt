@@ -1,4 +1,4 @@
--- Two valid trees of one root.
+-- Two trees of one root.
 use Rattle.std.specs.Prelude.{◌≡◌, true, false, ◌||◌, if◌then◌else◌, [], Option, Some, None, is_some}
 use Rattle.std.specs.FinMap.Entries.{is_sorted}
 use Rattle.hs_types.specs.Names.{Names}
@@ -12,6 +12,7 @@ pub record IsTree {B : Type 0} (tree : Tree B) : Type 0 where
   pub parents : has_parents tree ≡ true
   pub each_once : has_each_once tree ≡ true
 
+-- a directory is the root of both, no id stands twice in one, and an id is of one kind in both
 pub record IsPair {B : Type 0} (from to : Tree B) : Type 0 where
   pub from_tree : IsTree from
   pub to_tree : IsTree to
@@ -21,10 +22,11 @@ pub record IsPair {B : Type 0} (from to : Tree B) : Type 0 where
   pub to_at : node_at to [] ≡ Some to_root
   pub root_dir : is_dir from_root ≡ true
   pub same_root : from_root.id.0 ≡ to_root.id.0
-  -- an id is of one kind in both
   pub one_kind : (p q : Names) (a b : Node B) → node_at from p ≡ Some a → node_at to q ≡ Some b → a.id.0 ≡ b.id.0 → is_dir a ≡ is_dir b
-  -- a file whose stamp stayed has its bytes still
-  pub same_bytes : (p q : Names) (a b : Node B) → node_at from p ≡ Some a → node_at to q ≡ Some b → a.id.0 ≡ b.id.0 → a.stamp ≡ b.stamp → a.body ≡ b.body
+
+-- a file whose stamp stayed has its bytes still
+abbrev pub HasSameBytes : {B : Type 0} → Tree B → Tree B → Type 0
+HasSameBytes from to = (p q : Names) (a b : Node _) → node_at from p ≡ Some a → node_at to q ≡ Some b → a.id.0 ≡ b.id.0 → a.stamp ≡ b.stamp → a.body ≡ b.body
 
 -- all nodes but new files
 abbrev pub if_old : {B : Type 0} → Tree B → Option (Node B) → Option (Node B)

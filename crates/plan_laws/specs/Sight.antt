@@ -64,7 +64,7 @@ NoneBelow paths = Pairwise (λ path later. rest_below path later ≡ None) paths
 abbrev pub Rises : List Names → Type 0
 Rises paths = Pairwise (λ path later. rest_below later path ≡ None) paths
 
--- neither the root, nor a directory right below it or what is in it
+-- neither the root, nor the temporary directory, nor below that
 abbrev pub IsNotIn : List ℕ → Names → Type 0
 IsNotIn tmp [] = ⊥
 IsNotIn tmp (name ∷ path) = name ≡ tmp → ⊥

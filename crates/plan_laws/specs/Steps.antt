@@ -1,5 +1,5 @@
 -- The steps of a plan, and a journal in which they stand among other entries.
-use Rattle.std.specs.Prelude.{◌≡◌, ⊤, ℕ, ◌+◌, Bool, true, false, List, [], ◌∷◌, ◌++◌, map, None}
+use Rattle.std.specs.Prelude.{◌≡◌, ⊤, ℕ, ◌+◌, Bool, true, false, List, [], ◌∷◌, ◌++◌, map, None, is_some}
 use Rattle.std.specs.List.{filter, AllByRecursion}
 use Rattle.hs_types.specs.Names.{Names}
 use Rattle.hs_types.specs.declared.call.Call.{Call}
@@ -15,7 +15,7 @@ use Rattle.hs_plain.specs.Plan.{outs, rest_below}
 use Rattle.hs_plain.specs.Span.{touches}
 use Rattle.plan_laws.specs.Sight.{Placing, Back, New, moved_sight, made_sight, Goes, Makes}
 use Rattle.plan_laws.specs.Placings.{placings}
-use Rattle.plan_laws.specs.Copies.{Contents, CopyCall, Create, Append, path_of_call, call_done, CallGoes, is_dir_seen, without_sight}
+use Rattle.plan_laws.specs.Copies.{Contents, CopyCall, Create, Append, path_of_call, call_done, CallGoes, without_sight}
 use Rattle.plan_laws.specs.Bridge.{Leads}
 
 -- a move to a name in a directory, a new directory, a call of a copy, and the end of the temporary directory
@@ -40,7 +40,7 @@ abbrev pub StepGoes : Contents → Step → Type 0
 StepGoes seen (Move old above name) = Goes is_dir_body seen old above name × (old ≡ [] → ⊥) × (rest_below old (above ++ name ∷ []) ≡ None)
 StepGoes seen (Make above name) = Makes is_dir_body seen above name
 StepGoes seen (Fill call) = CallGoes seen call
-StepGoes seen (Drop name) = is_dir_seen (seen (name ∷ [])) ≡ true
+StepGoes seen (Drop name) = is_some (seen (name ∷ [])) ≡ true
 
 abbrev pub StepsGo : Contents → List Step → Type 0
 StepsGo seen [] = ⊤
@@ -92,6 +92,11 @@ pub record HasFirst (is_own : Entry → Bool) (root : List ℕ) (entries : List 
   pub own : own_calls is_own entries ++ rest ≡ calls
   pub accepted : AllByRecursion (λ entry. is_own entry ≡ true → is_accepted entry.kind ≡ true) entries
   pub others : AllByRecursion (λ entry. is_own entry ≡ false → touches root entry ≡ false) entries
+
+-- the first of the calls that are left would be answered by an Ok reply
+abbrev pub NextIsOk : State (List ℕ) → List Call → Type 0
+NextIsOk state [] = ⊤
+NextIsOk state (call ∷ rest) = is_ok_reply (answer state call) ≡ true
 
 -- each own call is answered by an Ok reply where it stands
 abbrev pub AreOk : (Entry → Bool) → State (List ℕ) → List Entry → Type 0

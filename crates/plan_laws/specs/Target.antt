@@ -8,12 +8,13 @@ use Rattle.hs_plain.specs.State.{is_snapshottable}
 use Rattle.hs_plain.specs.Valid.{IsValid}
 use Rattle.hs_plain.specs.Modifying.{live_path}
 use Rattle.hs_plain.specs.Plan.{AreEqual}
-use Rattle.plan_laws.specs.Pair.{IsPair}
+use Rattle.plan_laws.specs.Pair.{IsPair, HasSameBytes}
 
--- two trees of one root, a name for the temporary directory that neither root has as a child, and names for what is moved out
+-- two trees of one root in which a stamp tells a file's bytes, a name for the temporary directory that neither root has as a child, and names for what is moved out
 -- that all differ
 pub record IsBegun {B : Type 0} (from to : Tree B) (tmp : List ℕ) (number : ℕ → List ℕ) : Type 0 where
   pub pair : IsPair from to
+  pub same_bytes : HasSameBytes from to
   pub from_free : node_at from (tmp ∷ []) ≡ None
   pub to_free : node_at to (tmp ∷ []) ≡ None
   pub numbers_differ : (i j : ℕ) → number i ≡ number j → i ≡ j

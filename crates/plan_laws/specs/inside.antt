@@ -1,0 +1,3 @@
+-- What proofs alone cite.
+pub mod Numbers
+pub mod Taken
