@@ -1,0 +1,12 @@
+pub mod Steps
+pub mod Tables
+pub mod Lead
+pub mod Bad
+pub mod Names
+pub mod Report
+pub mod Texts
+pub mod Effects
+pub mod FoundIs
+pub mod OutNumbers
+pub mod Placed
+pub mod Theirs

@@ -1,0 +1,4 @@
+pub mod Planned
+pub mod Limits
+pub mod Laws
+pub mod inside

@@ -1,0 +1,4 @@
+-- Definitions that serve proofs alone.
+pub mod Leads
+pub mod Keyed
+pub mod Texts
