@@ -7,10 +7,10 @@ use Rattle.std.specs.FinMap.Entries.{by_order, below_all, where_key}
 use Rattle.hs_types.specs.declared.ids.InodeId.{InodeId}
 use Rattle.dir_changes.specs.Entries.{Entry, Entries, name_order, in_order, id_at, has, with_entry, with_all, without, without_name, among, holds}
 use Rattle.dir_changes.specs.Undo.{ListDiff, undo, can_undo, combined}
-use Rattle.dir_changes.specs.History.{DirHistory, Past, ids_of, added, removed_as, change_last, note_added, note_removed, without_record, combined_at, taken, dropped_at, dropped_behind, cancelled, undo_all, can_undo_all, last_from, number_at, number_before}
+use Rattle.dir_changes.specs.History.{DirHistory, Past, ids_of, added, removed_as, change_last, note_added, note_removed, without_record, combined_at, taken, dropped_at, dropped_behind, cancelled, undo_all, can_undo_all}
 use Rattle.dir_changes.specs.Sound.{IsSound, DiffsInOrder}
 use Rattle.dir_changes.specs.Counts.{one_where, same_id, count_ids, times, deleted_ids, created_in, deleted_in, last_created, goes_to_deleted, one_if_recorded, created_gone}
-use Rattle.dir_changes.specs.Edits.{CountsAdded, CountsRemoved, CountsCombined, LastCombined}
+use Rattle.dir_changes.specs.Edits.{CountsAdded, CountsRemoved, CountsCombined}
 use Rattle.dir_changes.proofs.UndoLaw.{first, second, undo_facts, is_that_so, is_that_from, id_at-with_all, id_at-without, id_at-undo, in_order-without, or_else}
 use Rattle.dir_changes.proofs.EditLaws.{same_name, same_name_so, same_name-refl, same_name-sym}
 use Rattle.dir_changes.proofs.PlaceLaws.{absent_below}
@@ -391,32 +391,3 @@ counts-removed dir name id sound there = record {
       let b = count-append (λ k. same_id k x) (ids_of dir.children) (deleted_ids dir.records) in
       omega (arith, here, gone, pick, a, b);
 }
-
--- ---- the last number
-
-last-taken : (n : ℕ) (p : Past) (rs : List Past) (i : ℕ) → i + 1 < length rs → last_from n (taken p rs i) ≡ last_from n (p ∷ rs)
-last-taken n p [] i lt = absurd (omega arith)
-last-taken n p (l ∷ []) zero lt = absurd (omega arith)
-last-taken n p (l ∷ m ∷ rs) zero lt = refl
-last-taken n p (l ∷ rs) (suc i) lt = last-taken p.number.0 l rs i (omega arith)
-
-last-taken_last : (n : ℕ) (p : Past) (rs : List Past) (i : ℕ) → i + 1 ≡ length rs → last_from n (taken p rs i) ≡ number_at (p ∷ rs) i
-last-taken_last n p [] i is = absurd (omega arith)
-last-taken_last n p (l ∷ []) zero is = refl
-last-taken_last n p (l ∷ m ∷ rs) zero is = absurd (omega arith)
-last-taken_last n p (l ∷ rs) (suc i) is = last-taken_last p.number.0 l rs i (omega arith)
-
-last-combined : (rs : List Past) (i : ℕ) → i + 1 < length rs → last_from 0 (combined_at i rs) ≡ last_from 0 rs
-last-combined [] i lt = refl
-last-combined (p ∷ []) zero lt = absurd (omega arith)
-last-combined (p ∷ q ∷ rs) zero lt = refl
-last-combined (p ∷ rs) (suc i) lt = last-taken 0 p rs i (omega arith)
-
-last-combined_last : (rs : List Past) (i : ℕ) → i + 1 ≡ length rs → last_from 0 (combined_at i rs) ≡ number_before rs i
-last-combined_last [] i is = absurd (omega arith)
-last-combined_last (p ∷ []) zero is = refl
-last-combined_last (p ∷ q ∷ rs) zero is = absurd (omega arith)
-last-combined_last (p ∷ rs) (suc i) is = last-taken_last 0 p rs i (omega arith)
-
-pub last_combined : (dir : DirHistory) (i : ℕ) → LastCombined i dir (without_record i dir)
-last_combined dir i = (last-combined dir.records i, last-combined_last dir.records i)

@@ -1,5 +1,6 @@
 pub mod UndoLaw
 pub mod EditLaws
+pub mod MarkedLaws
 pub mod ReadLaws
 pub mod OrderLaws
 pub mod DirLaws

@@ -3,13 +3,15 @@ use Rattle.std.proofs.Common.{ℕ, zero, suc, ◌<◌, true, false, cond, List, 
 use Rattle.std.specs.Prelude.{IsTrue, nat_eq}
 use Rattle.hs_types.specs.declared.ids.InodeId.{InodeId}
 use Rattle.hs_types.specs.declared.ids.SnapId.{SnapId}
+use Rattle.change_history.proofs.Numbers.{rising-append}
 use Rattle.dir_changes.specs.Entries.{in_order, with_entry, without_name, without, holds}
 use Rattle.dir_changes.specs.Undo.{ListDiff}
-use Rattle.dir_changes.specs.History.{DirHistory, Past, change_last, note_added, note_removed, taken, combined_at, started, without_record, children_at, records_from, undo_all, last_number}
+use Rattle.dir_changes.specs.History.{DirHistory, Past, number_of, change_last, note_added, note_removed, taken, combined_at, started, without_record, children_at, records_from, undo_all, last_number}
 use Rattle.dir_changes.specs.Sound.{IsSound, DiffsInOrder}
 use Rattle.dir_changes.proofs.UndoLaw.{in_order-with_entry, in_order-with_all, in_order-without}
 use Rattle.dir_changes.proofs.EditLaws.{in_order-without_name}
-use Rattle.dir_changes.proofs.ReadLaws.{in_order-undo_all, rising-append, rising-combined_at, can_undo_all-started, can_undo_all-combined_at}
+use Rattle.dir_changes.proofs.MarkedLaws.{rising-combined_at}
+use Rattle.dir_changes.proofs.ReadLaws.{in_order-undo_all, can_undo_all-started, can_undo_all-combined_at}
 
 -- both lists of a record are in order
 abbrev pub DiffInOrder : ListDiff → Type 0
@@ -50,7 +52,7 @@ ordered-combined_at (suc i) (p ∷ rs) order = ordered-taken p rs i order
 module _ (dir : DirHistory) (sound : IsSound dir) where
   pub sound-started : (number : SnapId) → last_number dir < number.0 → IsSound (started number dir)
   sound-started number above = record {
-    rising = rising-append 0 dir.records (record { number = number; marks = dir.marks; diff = record { created = []; deleted = [] } }) sound.rising above;
+    rising = rising-append number_of 0 dir.records (record { number = number; marks = dir.marks; diff = record { created = []; deleted = [] } }) sound.rising above;
     in_order = sound.in_order;
     ordered = ordered-append dir.records (record { number = number; marks = dir.marks; diff = record { created = []; deleted = [] } }) sound.ordered (refl, refl);
     undoable = can_undo_all-started dir number sound.undoable;

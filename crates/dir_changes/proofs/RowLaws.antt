@@ -1,21 +1,18 @@
 -- What each call of a directory keeps and counts.
-use Rattle.std.proofs.Common.{◌≡◌, ℕ, ◌<◌, ◌≤◌, List, [], ◌∷◌, ◌++◌, Option, Some, None, refl, sym, subst}
+use Rattle.std.proofs.Common.{◌≡◌, ℕ, ◌<◌, ◌≤◌, List, [], Option, Some, None, refl, sym, subst}
 use Rattle.hs_types.specs.declared.ids.InodeId.{InodeId}
 use Rattle.hs_types.specs.declared.ids.SnapId.{SnapId}
+use Rattle.change_history.proofs.Numbers.{last_from-append}
 use Rattle.dir_changes.specs.Entries.{id_at}
-use Rattle.dir_changes.specs.History.{DirHistory, Past, last_from, last_number, children_at, added, removed, removed_as, note_added, note_removed, started}
+use Rattle.dir_changes.specs.History.{DirHistory, number_of, last_number, children_at, added, removed, removed_as, note_added, note_removed, started}
 use Rattle.dir_changes.specs.Edits.{CountsRemoved, RemovedCounts}
 use Rattle.dir_changes.specs.Sound.{IsSound}
 use Rattle.dir_changes.proofs.DirLaws.{sound-removed, children_at-removed_as}
-use Rattle.dir_changes.proofs.ReadLaws.{last_from-change_last}
+use Rattle.dir_changes.proofs.MarkedLaws.{last_from-change_last}
 use Rattle.dir_changes.proofs.CountLaws.{counts-removed}
 
 pub last-started : (dir : DirHistory) (number : SnapId) → last_number (started number dir) ≡ number.0
-last-started dir number = go 0 dir.records
-  where
-    go : (n : ℕ) (rs : List Past) → last_from n (rs ++ record { number = number; marks = dir.marks; diff = record { created = []; deleted = [] } } ∷ []) ≡ number.0
-    go n [] = refl
-    go n (p ∷ rs) = go p.number.0 rs
+last-started dir number = last_from-append number_of 0 dir.records (record { number = number; marks = dir.marks; diff = record { created = []; deleted = [] } })
 
 pub last-added : (name : List ℕ) (id : InodeId) (dir : DirHistory) → last_number (added name id dir) ≡ last_number dir
 last-added name id dir = last_from-change_last (note_added name id) 0 dir.records

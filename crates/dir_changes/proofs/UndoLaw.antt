@@ -1,7 +1,7 @@
 -- How look-ups see `undo` and `combined`.
 use lib.Dec.{T}
 use Rattle.std.proofs.Common.{◌≡◌, ℕ, Bool, true, false, cond, List, [], ◌∷◌, Option, Some, None, refl, sym, ap, subst, ◌∙◌}
-use Rattle.std.specs.Prelude.{not, ◌&&◌, IsTrue, is_some}
+use Rattle.std.specs.Prelude.{not, IsTrue, is_some}
 use Rattle.std.specs.List.{list_all}
 use Rattle.std.specs.Ordering.{is_eq, eq_by_cmp}
 use Rattle.std.specs.declared.cmp.Ordering.{Ordering}
@@ -13,6 +13,7 @@ use Rattle.std.specs.FinMap.Entries.{by_order, find-put, find-where_key, is_sort
 use Rattle.hs_types.specs.declared.ids.InodeId.{InodeId}
 use Rattle.dir_changes.specs.Entries.{Entry, Entries, name_order, in_order, id_at, has, with_entry, without, with_all, is_that, holds, lacks}
 use Rattle.dir_changes.specs.Undo.{ListDiff, undo, can_undo, combined, CombinesUndo}
+pub use Rattle.change_history.proofs.Tests.{both, first, second}
 
 pub names_exact : IsAntisymmetric name_order
 names_exact = slice_cmp-IsAntisymmetric nat_cmp-IsAntisymmetric
@@ -69,18 +70,6 @@ pub id_at-undo : (q : List ℕ) (diff : ListDiff) (entries : Entries) → id_at 
 id_at-undo q diff entries = id_at-with_all q diff.deleted _ ∙ ap (or_else (id_at q diff.deleted)) (id_at-without q diff.created entries)
 
 -- ---- tests of each entry
-
-pub both : (a b : Bool) → IsTrue a → IsTrue b → IsTrue (a && b)
-both true b p q = q
-both false b p q = p
-
-pub first : (a b : Bool) → IsTrue (a && b) → IsTrue a
-first true b p = refl
-first false b p = p
-
-pub second : (a b : Bool) → IsTrue (a && b) → IsTrue b
-second true b p = p
-second false b p = cc
 
 -- what each entry passes, the entry that a look-up finds passes
 pub passes_found : (test : Entry → Bool) (es : Entries) (q : List ℕ) (id : InodeId) → IsTrue (list_all test es) → id_at q es ≡ Some id → IsTrue (test (q, id))

@@ -1,8 +1,9 @@
 -- What an edit and a merge do to the counts of a directory.
-use Rattle.std.specs.Prelude.{◌≡◌, ℕ, ◌+◌, ◌<◌, if◌then◌else◌, List, length, Some}
+use Rattle.std.specs.Prelude.{◌≡◌, ℕ, ◌+◌, if◌then◌else◌, List, length, Some}
 use Rattle.hs_types.specs.declared.ids.InodeId.{InodeId}
 use Rattle.dir_changes.specs.Entries.{id_at}
-use Rattle.dir_changes.specs.History.{DirHistory, last_number, number_before}
+use Rattle.change_history.specs.History.{LastRemoved}
+use Rattle.dir_changes.specs.History.{DirHistory, number_of}
 use Rattle.dir_changes.specs.Counts.{one_where, same_id, times, times_named, created_in, deleted_in, one_if_recorded, last_created, goes_to_deleted, created_gone}
 
 -- one entry more: in the current list, and in the last record's created list
@@ -33,4 +34,4 @@ pub record CountsCombined (i : ℕ) (ids : List InodeId) (before after : DirHist
 
 -- the number of the last record, once record i is combined
 abbrev pub LastCombined : ℕ → DirHistory → DirHistory → Type 0
-LastCombined i before after = ((i + 1 < length before.records → last_number after ≡ last_number before) × (i + 1 ≡ length before.records → last_number after ≡ number_before before.records i))
+LastCombined i before after = LastRemoved number_of i before.records after.records

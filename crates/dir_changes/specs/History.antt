@@ -1,8 +1,9 @@
 -- A directory through its snapshots: what it is now, and what each record says of the time before.
-use Rattle.std.specs.Prelude.{ℕ, zero, suc, Bool, true, ◌&&◌, ◌==◌, nat_lt, nat_le, if◌then◌else◌, List, [], ◌∷◌, ◌++◌, map, Option, Some, None}
+use Rattle.std.specs.Prelude.{ℕ, zero, suc, Bool, true, ◌&&◌, ◌==◌, if◌then◌else◌, List, [], ◌∷◌, ◌++◌, map, Option, Some, None}
 use Rattle.hs_types.specs.declared.ids.InodeId.{InodeId}
 use Rattle.hs_types.specs.declared.ids.SnapId.{SnapId}
 use Rattle.hs_types.specs.declared.name.Spot.{Spot}
+use Rattle.change_history.specs.History as history
 use Rattle.dir_changes.specs.Entries.{Entries, id_at, holds, with_entry, without_name, among}
 use Rattle.dir_changes.specs.Undo.{ListDiff, undo, can_undo, combined}
 
@@ -23,12 +24,19 @@ pub record DirHistory : Type 0 where
   pub children : Entries
   pub records : List Past
 
+-- the number of a record
+abbrev pub number_of : Past → ℕ
+number_of past = past.number.0
+
+-- the marks that a record saved
+abbrev pub marks_saved : Past → Marks
+marks_saved past = past.marks
+
 -- ---- numbers
 
 -- the number of the last record, or the one handed in
 abbrev pub last_from : ℕ → List Past → ℕ
-last_from number [] = number
-last_from number (past ∷ records) = last_from past.number.0 records
+last_from number records = history.last_from number_of number records
 
 -- the number of the last record, or 0
 abbrev pub last_number : DirHistory → ℕ
@@ -36,26 +44,25 @@ last_number dir = last_from 0 dir.records
 
 -- whether the numbers rise, all above the one handed in
 abbrev pub rising : ℕ → List Past → Bool
-rising number [] = true
-rising number (past ∷ records) = nat_lt number past.number.0 && rising past.number.0 records
+rising number records = history.rising number_of number records
 
 -- the number of record i, or 0
 abbrev pub number_at : List Past → ℕ → ℕ
-number_at [] i = 0
-number_at (past ∷ records) zero = past.number.0
-number_at (past ∷ records) (suc i) = number_at records i
+number_at records i = history.number_at number_of records i
 
 -- the number of the record before record i, or 0
 abbrev pub number_before : List Past → ℕ → ℕ
-number_before records zero = 0
-number_before records (suc i) = number_at records i
+number_before records i = history.number_before number_of records i
 
 -- ---- reading
 
 -- the records from the first one numbered at least s on
 abbrev pub records_from : ℕ → List Past → List Past
-records_from s [] = []
-records_from s (past ∷ records) = if nat_le s past.number.0 then past ∷ records else records_from s records
+records_from s records = history.records_from number_of s records
+
+-- the records that tell snapshot s; 0 is no snapshot, and none tells it
+abbrev pub records_at : ℕ → List Past → List Past
+records_at s records = history.records_at number_of s records
 
 -- the list with these records undone, from the last one down to the first
 abbrev pub undo_all : List Past → Entries → Entries
@@ -73,12 +80,11 @@ children_at s dir = if s == 0 then dir.children else undo_all (records_from s di
 
 -- the marks that the first record numbered at least s saved; without one, the current marks
 abbrev pub marks_from : ℕ → List Past → Marks → Marks
-marks_from s [] current = current
-marks_from s (past ∷ records) current = if nat_le s past.number.0 then past.marks else marks_from s records current
+marks_from s records current = history.saved_from number_of marks_saved s records current
 
 -- the marks at a snapshot
 abbrev pub marks_at : ℕ → DirHistory → Marks
-marks_at s dir = if s == 0 then dir.marks else marks_from s dir.records dir.marks
+marks_at s dir = history.saved_at number_of marks_saved s dir.records dir.marks
 
 -- ---- changes
 
@@ -133,7 +139,7 @@ combined_at (suc i) (past ∷ records) = taken past records i
 abbrev pub without_record : ℕ → DirHistory → DirHistory
 without_record i dir = record dir { records = combined_at i dir.records }
 
--- the deleted entries that stand in neither list then: those that the earlier one had created
+-- the later one's deleted entries that the earlier one had created: they were there only in between, so neither combined list has them
 abbrev pub cancelled : ListDiff → ListDiff → Entries
 cancelled earlier later = among earlier.created later.deleted
 

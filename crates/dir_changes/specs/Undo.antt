@@ -16,7 +16,7 @@ undo diff entries = with_all diff.deleted (without diff.created entries)
 abbrev pub can_undo : ListDiff → Entries → Bool
 can_undo diff entries = list_all (holds entries) diff.created && list_all (lacks (without diff.created entries)) diff.deleted
 
--- one for both: an entry that the earlier one created and the later one deleted stands in neither list
+-- one for both. What the earlier one created and the later one deleted was there only in between: it stands in neither list.
 abbrev pub combined : ListDiff → ListDiff → ListDiff
 combined earlier later = record {
   created = with_all later.created (without later.deleted earlier.created);

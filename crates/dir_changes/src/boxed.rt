@@ -104,6 +104,7 @@ pub fn ready_start(
     ensures spot { HasSpot spot.now (fresh_in past.new) }
     ensures records { records_in past.new ≡ records_in past.old }
     ensures merge { one_if (merge_in past.old) ≤ one_if (merge_in past.new) }
+    ensures fresh { one_if (fresh_in past.old) ≤ one_if (fresh_in past.new) }
     ensures edits { edits_in past.new ≡ edits_in past.old }
     ensures ok { OnOk result (0 < one_if (fresh_in past.new)) }
     ensures succeeds { 0 < one_if (fresh_in past.old) → IsOk result }
@@ -261,6 +262,7 @@ pub fn let_go(alloc: Global, past: &mut Option<Box<DirPast>>)
     ensures ready { IsPastReady past.new }
     ensures records { records_in past.new ≡ records_in past.old }
     ensures fresh { fresh_in past.new ≡ None }
+    ensures merge { merge_in past.new ≡ None }
     ensures edits { edits_in past.new ≡ 0 }
 {
     if let Some(mut kept) = past.take() {

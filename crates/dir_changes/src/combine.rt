@@ -23,8 +23,8 @@ pub struct Lists {
     pub deleted: Children,
 }
 
-/// The lists of two records put together, in the memory of `created` and `deleted`, and the deleted entries that the
-/// earlier one had created, which stand in no list any more.
+/// The lists of two records put together, in the memory of `created` and `deleted`, and what the later one deleted and
+/// the earlier one had created: it was there only in between, and stands in neither list then.
 pub fn merge_lists(
     earlier: Lists,
     later: Lists,
@@ -55,7 +55,7 @@ pub fn merge_lists(
 }
 
 /// Takes the later record's lists into the earlier one, and gives memory back but for `keep` entries more. Hands back
-/// the ids of the deleted entries that the earlier one had created: they stand in no list any more.
+/// the ids of what the later one deleted and the earlier one had created: it stands in neither list then.
 pub fn take_later(
     earlier: &mut DirRecord,
     later: DirRecord,
@@ -152,7 +152,8 @@ pub fn ids_in(mut ids: Vec<InodeId>, children: &[Child]) -> List<InodeId>
 }
 
 /// Takes record `i` into the one before it, or drops it as the first. Hands back the ids of the deleted entries that
-/// are dropped. A list that was put together keeps room for `keep` entries more.
+/// go: those that the one before had created, and of a first record all. A list that was put together keeps room for
+/// `keep` entries more.
 pub fn combine_at(
     records: &mut Vec<DirRecord>,
     i: usize,

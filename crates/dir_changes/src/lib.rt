@@ -3,16 +3,16 @@
 
 mod boxed;
 mod changes;
-pub mod child;
-pub mod children;
+mod child;
+mod children;
 mod combine;
 pub mod laws;
 mod merge;
 mod name_room;
 mod past;
 mod reading;
-pub mod recorded;
-pub mod rows;
+mod recorded;
+mod rows;
 mod search;
 mod spare;
 

@@ -249,6 +249,7 @@ pub fn empty_room(past: &mut DirPast, alloc: Global)
     ensures ready { IsReady past.new }
     ensures records { pasts_of past.new ≡ pasts_of past.old }
     ensures fresh { past.new.fresh ≡ None }
+    ensures merge { past.new.merge ≡ None }
     ensures edits { past.new.edits ≡ 0 }
 {
     past.fresh = None;

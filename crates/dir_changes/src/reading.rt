@@ -1,8 +1,8 @@
 //! Which record tells a snapshot, and what the child list was there.
-ghost use Rattle.std.specs.Prelude.{◌≡◌, ℕ, ◌<◌, ◌≤◌, ◌==◌, [], if◌then◌else◌, IsTrue, IfOk, map, length};
+ghost use Rattle.std.specs.Prelude.{◌≡◌, ◌<◌, IsTrue, IfOk, map, length};
 ghost use Rattle.dir_changes.specs.Entries.{id_at};
 ghost use Rattle.dir_changes.specs.Undo.{combined};
-ghost use Rattle.dir_changes.specs.History.{rising, number_at, records_from, undo_all, can_undo_all};
+ghost use Rattle.dir_changes.specs.History.{rising, records_at, undo_all, can_undo_all};
 ghost use Rattle.dir_changes.specs.Recorded.{past_of, diff_of, lists_of};
 ghost use Rattle.dir_changes.specs.Together.{StandsForAll};
 
@@ -11,49 +11,15 @@ use crate::children::Children;
 use crate::combine::{Lists, merge_lists};
 use crate::merge::copies;
 use crate::recorded::{DirRecord, undone};
-use hs_types::{InodeId, Name, NoMemory};
+use hs_types::{InodeId, Name, NoMemory, SnapId};
 use std::alloc::Global;
 
-/// The place of the first record numbered at least `number`, or how many records there are.
-pub fn first_from(records: &[DirRecord], number: u64) -> usize
+/// The records that tell a snapshot, the first of them first. 0 is no snapshot: none tells it.
+pub fn records_at(records: &[DirRecord], s: SnapId) -> &[DirRecord]
     requires { IsTrue (rising 0 (map past_of records.now)) }
-    ensures bound { result ≤ length records.now }
-    ensures before { (j : ℕ) → j < result → number_at (map past_of records.now) j < number }
-    ensures after { result < length records.now → number ≤ number_at (map past_of records.now) result }
+    ensures { map past_of result.now ≡ records_at s.0 (map past_of records.now) }
 {
-    let mut low = 0;
-    let mut high = records.len();
-    while low < high {
-        let middle = low + (high - low) / 2;
-        if records[middle].number.0 < number {
-            low = middle + 1;
-        } else {
-            high = middle;
-        }
-    }
-    low
-}
-
-/// The records from the first one numbered at least `number` on.
-pub fn records_from(records: &[DirRecord], number: u64) -> &[DirRecord]
-    requires { IsTrue (rising 0 (map past_of records.now)) }
-    ensures { map past_of result.now ≡ records_from number (map past_of records.now) }
-{
-    let (_, rest) = records.split_at(first_from(records, number));
-    rest
-}
-
-/// The same at 0, which is no snapshot: no record tells it.
-pub fn records_at(records: &[DirRecord], number: u64) -> &[DirRecord]
-    requires { IsTrue (rising 0 (map past_of records.now)) }
-    ensures { map past_of result.now ≡ (if number == 0 then [] else records_from number (map past_of records.now)) }
-{
-    if number == 0 {
-        let (_, none) = records.split_at(records.len());
-        none
-    } else {
-        records_from(records, number)
-    }
+    change_history::records_at(records, s)
 }
 
 /// The list with these records undone. Their lists are put together, two halves at a time, and undone once.

@@ -10,6 +10,7 @@ use crate::child::Child;
 use crate::children::Children;
 use crate::combine::Lists;
 use crate::merge::{drop_names, put_all};
+use change_history::Numbered;
 use hs_types::{InodeId, List, Mode, Name, NoMemory, SnapId, Spot};
 use std::collections::VecDeque;
 
@@ -43,9 +44,17 @@ pub struct DirMarks<'a> {
     pub stamp: u64,
 }
 
+impl Numbered for DirRecord {
+    ghost number_of = { λ r. r.number.0 };
+
+    fn number(&self) -> SnapId {
+        self.number
+    }
+}
+
 impl DirRecord {
     /// The marks that the record saved.
-    pub fn marks(&self) -> DirMarks<'_>
+    pub(crate) fn marks(&self) -> DirMarks<'_>
         ensures { marks_shown result ≡ record { spot = self.now.spot; mode = self.now.mode; stamp = self.now.stamp } }
     {
         DirMarks {

@@ -20,6 +20,7 @@ use crate::children::Children;
 use crate::past::DirPast;
 use crate::reading::{id_before, records_at, undo_all};
 use crate::recorded::{DirMarks, DirRecord, DirView, keeps};
+use change_history::last_number;
 use hs_types::{Duplicate, InodeId, List, Mode, Name, NoMemory, SnapId, Spot};
 use std::alloc::Global;
 use std::marker::Model;
@@ -98,10 +99,7 @@ impl DirRows {
     pub fn last_number(&self) -> SnapId
         ensures { result.0 ≡ last_number self.now.history }
     {
-        match records_of(&self.past).last() {
-            Some(saved) => saved.number,
-            None => SnapId(0),
-        }
+        last_number(records_of(&self.past))
     }
 
     /// The state and the child list at a snapshot.
@@ -124,7 +122,7 @@ impl DirRows {
         ensures list { IfOk result (λ list. list.items ≡ children_at s.0 self.now.history) }
         ensures sound { IsSound self.now.history }
     {
-        let records = records_at(records_of(&self.past), s.0);
+        let records = records_at(records_of(&self.past), s);
         undo_all(self.children.allocator(), records, &self.children)
     }
 
@@ -132,7 +130,7 @@ impl DirRows {
     pub fn child_at(&self, s: SnapId, name: &Name) -> Option<InodeId>
         ensures { result ≡ id_at name.now (children_at s.0 self.now.history) }
     {
-        let records = records_at(records_of(&self.past), s.0);
+        let records = records_at(records_of(&self.past), s);
         id_before(records, &self.children, name)
     }
 
@@ -140,7 +138,7 @@ impl DirRows {
     pub fn marks_at(&self, s: SnapId) -> DirMarks<'_>
         ensures { marks_shown result ≡ marks_at s.0 self.now.history }
     {
-        let records = records_at(records_of(&self.past), s.0);
+        let records = records_at(records_of(&self.past), s);
         match records.first() {
             Some(saved) => saved.marks(),
             None => self.current_marks(),
@@ -198,7 +196,7 @@ impl DirRows {
 
     /// Makes room, so that the next `combine` can't want memory. Neither can the next `start_record`, unless a
     /// `set_marks` or `set_spot` stands between, nor the next three calls of `add` and `remove` together. Without
-    /// records nothing is made to put lists together.
+    /// records nothing is made to put lists together. `release_room` lets all of it go.
     pub fn prepare(&mut self) -> Result<(), NoMemory>
         ensures same { self.new.history ≡ self.old.history }
         ensures edits { OnOk result (3 ≤ self.new.room.edits) }
@@ -224,6 +222,8 @@ impl DirRows {
     /// Lets the room go that was made and not used.
     pub fn release_room(&mut self)
         ensures same { self.new.history ≡ self.old.history }
+        ensures sound { IsSound self.new.history }
+        ensures room { self.new.room ≡ record { edits = 0; starts = 0; merges = 0 } }
     {
         let alloc = self.children.allocator();
         let_go(alloc, &mut self.past);
@@ -242,6 +242,7 @@ impl DirRows {
         ensures err { OnErr result (self.new.history ≡ self.old.history) }
         ensures room { 0 < self.old.room.starts → IsOk result }
         ensures kept { OnOk result (UsesStart self.old.room self.new.room) }
+        ensures err_room { OnErr result (KeepsRoom self.old.room self.new.room) }
     {
         self.prepare_start()?;
         self.push_started(number);
@@ -254,7 +255,7 @@ impl DirRows {
         ensures sound { IsSound self.new.history }
         ensures ok { OnOk result (0 < self.new.room.starts) }
         ensures room { 0 < self.old.room.starts → IsOk result }
-        ensures kept { UsesStart self.old.room self.new.room }
+        ensures kept { KeepsRoom self.old.room self.new.room }
     {
         ready_start(self.children.allocator(), &mut self.past, &self.spot)
     }
@@ -281,6 +282,7 @@ impl DirRows {
         ensures err { OnErr result (self.new.history ≡ self.old.history) }
         ensures room { 0 < self.old.room.edits → IsOk result }
         ensures kept { OnOk result (UsesEdit self.old.room self.new.room) }
+        ensures err_room { OnErr result (KeepsRoom self.old.room self.new.room) }
     {
         self.try_add(name, id)?;
         Ok(())
@@ -293,6 +295,7 @@ impl DirRows {
         ensures err { OnErr result (self.new.history ≡ self.old.history) }
         ensures room { 0 < self.old.room.edits → IsOk result }
         ensures kept { OnOk result (UsesEdit self.old.room self.new.room) }
+        ensures err_room { OnErr result (KeepsRoom self.old.room self.new.room) }
     {
         self.children.reserve(1)?;
         ready_edit(self.children.allocator(), &mut self.past)?;
@@ -315,6 +318,7 @@ impl DirRows {
         ensures room { 0 < self.old.room.edits → IsOk result }
         ensures absent { id_at name.now self.old.history.children ≡ None → IsOk result }
         ensures kept { OnOk result (UsesEdit self.old.room self.new.room) }
+        ensures err_room { OnErr result (KeepsRoom self.old.room self.new.room) }
     {
         let id = self.try_remove(name)?;
         Ok(id)
@@ -328,6 +332,7 @@ impl DirRows {
         ensures room { 0 < self.old.room.edits → IsOk result }
         ensures absent { id_at name.now self.old.history.children ≡ None → IsOk result }
         ensures kept { OnOk result (UsesEdit self.old.room self.new.room) }
+        ensures err_room { OnErr result (KeepsRoom self.old.room self.new.room) }
     {
         match self.children.id_of(name) {
             Some(id) => {
@@ -350,7 +355,8 @@ impl DirRows {
     }
 
     /// Takes record `i` into the one before it, which keeps its number and its marks, or drops it as the first.
-    /// Hands back the id of each deleted entry that is dropped: no list has it any more.
+    /// Hands back the ids of the deleted entries that go: those that record `i` deleted and the one before had created,
+    /// which stand in neither list then, and of a first record all.
     pub fn combine(&mut self, i: usize) -> Result<List<InodeId>, NoMemory>
         requires { i < length self.old.history.records }
         ensures ids { IfOk result (λ ids. ids ≡ ids_of (dropped_at i self.old.history.records)) }
@@ -365,6 +371,7 @@ impl DirRows {
         ensures err { OnErr result (self.new.history ≡ self.old.history) }
         ensures room { 0 < self.old.room.merges → IsOk result }
         ensures kept { OnOk result (UsesMerge self.old.room self.new.room) }
+        ensures err_room { OnErr result (KeepsRoom self.old.room self.new.room) }
     {
         self.prepare_combine()?;
         Ok(self.combine_prepared(i))

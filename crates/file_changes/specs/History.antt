@@ -1,8 +1,9 @@
 -- The states of a file: the current one, and those that records saved.
-use Rattle.std.specs.Prelude.{◌≡◌, ◌<◌, length, ℕ, zero, suc, ◌+◌, Bool, true, false, not, ◌&&◌, ◌||◌, ◌==◌, nat_lt, nat_le, if◌then◌else◌, List, [], ◌∷◌, ◌++◌, filter, remove, IsTrue, Option, Some, None}
+use Rattle.std.specs.Prelude.{◌≡◌, ◌<◌, ℕ, zero, suc, Bool, not, ◌||◌, ◌==◌, List, [], ◌∷◌, ◌++◌, filter, remove, IsTrue}
 use Rattle.std.specs.List.{list_any}
 use Rattle.hs_types.specs.declared.ids.BlockId.{BlockId}
 use Rattle.hs_types.specs.declared.ids.SnapId.{SnapId}
+use Rattle.change_history.specs.History as history
 use Rattle.file_changes.specs.declared.state.FileState.{FileState}
 use Rattle.file_changes.specs.declared.state.FileRecord.{FileRecord}
 
@@ -16,10 +17,17 @@ pub record FileValue : Type 0 where
   pub history : FileHistory
   pub saves : ℕ
 
+-- the number of a record
+abbrev pub number_of : FileRecord → ℕ
+number_of record_ = record_.number.0
+
+-- the state that a record saved
+abbrev pub state_of : FileRecord → FileState
+state_of record_ = record_.state
+
 -- the number of the last record, or the one handed in
 abbrev pub last_from : ℕ → List FileRecord → ℕ
-last_from number [] = number
-last_from number (record_ ∷ records) = last_from record_.number.0 records
+last_from number records = history.last_from number_of number records
 
 -- the number of the last record, or 0
 abbrev pub last_number : FileHistory → ℕ
@@ -27,17 +35,15 @@ last_number file = last_from 0 file.records
 
 -- whether the numbers rise, all above the one handed in
 abbrev pub rising : ℕ → List FileRecord → Bool
-rising number [] = true
-rising number (record_ ∷ records) = nat_lt number record_.number.0 && rising record_.number.0 records
+rising number records = history.rising number_of number records
 
 -- the state that the first record numbered at least s saved; without one, the current state
 abbrev pub state_from : ℕ → List FileRecord → FileState → FileState
-state_from s [] current = current
-state_from s (record_ ∷ records) current = if nat_le s record_.number.0 then record_.state else state_from s records current
+state_from s records current = history.saved_from number_of state_of s records current
 
 -- the state at a snapshot; 0 is no snapshot, and stands for the current state
 abbrev pub state_at : ℕ → FileHistory → FileState
-state_at s file = if s == 0 then file.current else state_from s file.records file.current
+state_at s file = history.saved_at number_of state_of s file.records file.current
 
 -- a new record that saves the present state
 abbrev pub saved : SnapId → FileHistory → FileHistory
@@ -45,14 +51,11 @@ saved number file = record file { records = file.records ++ record { number = nu
 
 -- the number of record i, or 0
 abbrev pub number_at : List FileRecord → ℕ → ℕ
-number_at [] i = 0
-number_at (record_ ∷ records) zero = record_.number.0
-number_at (record_ ∷ records) (suc i) = number_at records i
+number_at records i = history.number_at number_of records i
 
 -- the number of the record before record i, or 0
 abbrev pub number_before : List FileRecord → ℕ → ℕ
-number_before records zero = 0
-number_before records (suc i) = number_at records i
+number_before records i = history.number_before number_of records i
 
 -- the file without record i
 abbrev pub without_record : ℕ → FileHistory → FileHistory
@@ -77,7 +80,7 @@ only_at i file = filter (λ block. not (names (without_record i file) block)) (b
 
 -- the number of the last record, once record i is removed
 abbrev pub LastRemoved : ℕ → FileHistory → FileHistory → Type 0
-LastRemoved i before after = (i + 1 < length before.records → last_number after ≡ last_number before) × (i + 1 ≡ length before.records → last_number after ≡ number_before before.records i)
+LastRemoved i before after = history.LastRemoved number_of i before.records after.records
 
 -- above the last number an id reads the current state
 abbrev pub CurrentLaw : Type 0

@@ -1,5 +1,5 @@
 -- Private: what the fields of a `FileRows` stand for, and what they keep.
-use Rattle.std.specs.Prelude.{◌≡◌, ℕ, ◌<◌, ◌≤◌, nat_le, if◌then◌else◌, List, [], length, Option, Some, None, IsTrue, vec_len, vec_capacity, Box}
+use Rattle.std.specs.Prelude.{◌≡◌, ℕ, ◌<◌, nat_le, if◌then◌else◌, List, [], length, Option, Some, None, IsTrue, vec_len, vec_capacity, Box}
 use Rattle.std.specs.Option.{ForSome}
 use Rattle.hs_types.specs.declared.name.Spot.{Spot}
 use Rattle.file_changes.specs.declared.rows.FileRows.TheInside.{Inside}
@@ -7,7 +7,7 @@ use Rattle.file_changes.specs.declared.past.FilePast.{FilePast}
 use Rattle.file_changes.specs.declared.past.SpareCopy.{SpareCopy}
 use Rattle.file_changes.specs.declared.state.FileState.{FileState}
 use Rattle.file_changes.specs.declared.state.FileRecord.{FileRecord}
-use Rattle.file_changes.specs.History.{FileHistory, FileValue, rising}
+use Rattle.file_changes.specs.History.{FileValue, rising}
 
 -- the records behind the box, none without one
 abbrev pub records_in : {Z : Type 0} → Option (Box FilePast Z) → List FileRecord

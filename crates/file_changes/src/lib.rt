@@ -4,9 +4,8 @@
 mod blocks;
 pub mod laws;
 mod past;
-pub mod rows;
-mod search;
-pub mod state;
+mod rows;
+mod state;
 
 pub use rows::FileRows;
 pub use state::{FileRecord, FileState, FileView};

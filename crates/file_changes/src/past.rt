@@ -146,6 +146,7 @@ fn filled(mut ids: Vec<BlockId>, blocks: &[BlockId]) -> List<BlockId>
 pub fn let_go(past: &mut Option<Box<FilePast>>)
     ensures records { records_in past.new ≡ records_in past.old }
     ensures kept { (present : Spot) → IsPastKept present past.new }
+    ensures saves { (current : FileState) → saves_in current past.new ≡ 0 }
 {
     if let Some(mut kept) = past.take() {
         kept.spare = None;

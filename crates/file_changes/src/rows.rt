@@ -5,8 +5,8 @@ ghost use Rattle.file_changes.specs.View.{shown};
 ghost use Rattle.file_changes.specs.History.{state_at, saved, last_number, rising, number_at, number_before, without_record, only_at, LastRemoved};
 
 use crate::past::{FilePast, drop_record, let_go, push_saved, ready_past, records_of};
-use crate::search::state_from;
 use crate::state::{FileRecord, FileState, FileView};
+use change_history::{last_number, records_at};
 use hs_types::{BlockId, List, Mode, NoMemory, SnapId, Spot};
 use std::alloc::Global;
 use std::marker::Model;
@@ -61,10 +61,9 @@ impl FileRows {
     fn state_at(&self, s: SnapId) -> &FileState
         ensures { result.now ≡ state_at s.0 self.now.history }
     {
-        if s.0 == 0 {
-            &self.current
-        } else {
-            state_from(records_of(&self.past), &self.current, s.0)
+        match records_at(records_of(&self.past), s).first() {
+            Some(saved) => &saved.state,
+            None => &self.current,
         }
     }
 
@@ -72,10 +71,7 @@ impl FileRows {
     pub fn last_number(&self) -> SnapId
         ensures { result.0 ≡ last_number self.now.history }
     {
-        match records_of(&self.past).last() {
-            Some(saved) => saved.number,
-            None => SnapId(0),
-        }
+        last_number(records_of(&self.past))
     }
 
     /// Starts a record that saves the present state.
@@ -104,7 +100,8 @@ impl FileRows {
         push_saved(&mut self.past, number, &self.current);
     }
 
-    /// Makes room, so that the next `save` can't want memory, unless a `set`, `set_spot` or `set_body` stands between. It
+    /// Makes room, so that the next `save` can't want memory, unless a `set`, `set_spot`, `set_body` or `release_room`
+    /// stands between. `take_blocks` by itself leaves the room, but the `set_body` that puts the list back need not. It
     /// copies no id of a block.
     pub fn prepare(&mut self) -> Result<(), NoMemory>
         ensures same { self.new.history ≡ self.old.history }
@@ -118,6 +115,8 @@ impl FileRows {
     /// Lets the room go that was made and not used.
     pub fn release_room(&mut self)
         ensures same { self.new.history ≡ self.old.history }
+        ensures rising { IsTrue (rising 0 self.new.history.records) }
+        ensures room { self.new.saves ≡ 0 }
     {
         let_go(&mut self.past);
     }
@@ -128,6 +127,7 @@ impl FileRows {
         ensures reads_as_before { (s : ℕ) → 0 < s → s ≤ last_number self.old.history → state_at s self.new.history ≡ state_at s self.old.history }
         ensures last { last_number self.new.history ≡ last_number self.old.history }
         ensures rising { IsTrue (rising 0 self.new.history.records) }
+        ensures room { self.new.saves ≡ 0 }
     {
         let_go(&mut self.past);
         self.current = state;
@@ -139,6 +139,7 @@ impl FileRows {
         ensures reads_as_before { (s : ℕ) → 0 < s → s ≤ last_number self.old.history → state_at s self.new.history ≡ state_at s self.old.history }
         ensures last { last_number self.new.history ≡ last_number self.old.history }
         ensures rising { IsTrue (rising 0 self.new.history.records) }
+        ensures room { self.new.saves ≡ 0 }
     {
         let_go(&mut self.past);
         self.current.spot = spot;
@@ -173,6 +174,10 @@ impl FileRows {
     pub fn take_blocks(&mut self) -> List<BlockId>
         ensures blocks { result ≡ self.old.history.current.blocks }
         ensures current { self.new.history ≡ record self.old.history { current = record self.old.history.current { blocks = [] } } }
+        ensures reads_as_before { (s : ℕ) → 0 < s → s ≤ last_number self.old.history → state_at s self.new.history ≡ state_at s self.old.history }
+        ensures last { last_number self.new.history ≡ last_number self.old.history }
+        ensures rising { IsTrue (rising 0 self.new.history.records) }
+        ensures room { self.old.saves ≤ self.new.saves }
     {
         List::of(self.current.blocks.take())
     }

@@ -2,6 +2,7 @@
 ghost use Rattle.std.specs.Prelude.{◌≡◌};
 ghost use Rattle.file_changes.specs.View.{shown};
 
+use change_history::Numbered;
 use hs_types::{BlockId, Duplicate, List, Mode, NoMemory, SnapId, Spot};
 
 /// All that is known of a file: where it stands, its mode and stamp, and its body as a size over blocks.
@@ -33,7 +34,7 @@ pub struct FileRecord {
 }
 
 impl FileState {
-    pub fn view(&self) -> FileView<'_>
+    pub(crate) fn view(&self) -> FileView<'_>
         ensures { shown result ≡ self.now }
     {
         FileView {
@@ -43,5 +44,15 @@ impl FileState {
             size: self.size,
             blocks: &self.blocks,
         }
+    }
+}
+
+impl Numbered for FileRecord {
+    ghost use Rattle.file_changes.specs.History as history;
+
+    ghost number_of = { history.number_of };
+
+    fn number(&self) -> SnapId {
+        self.number
     }
 }

@@ -3,7 +3,8 @@ use Rattle.dir_changes.specs.History.{without_record, children_at, marks_at, dro
 use Rattle.dir_changes.specs.Edits.{CountsCombined, LastCombined}
 use Rattle.dir_changes.specs.Sound.{IsSound}
 use Rattle.dir_changes.proofs.ReadLaws.{children_at-combined_below, children_at-combined_above, marks_at-combined_below, marks_at-combined_above}
-use Rattle.dir_changes.proofs.CountLaws.{counts-combined, last_combined}
+use Rattle.dir_changes.proofs.CountLaws.{counts-combined}
+use Rattle.dir_changes.proofs.MarkedLaws.{last_combined}
 use Rattle.dir_changes.proofs.rows.DirRows.combine.Goals as goal
 
 pub returns-clause-children_below : goal.returns-clause-children_below
