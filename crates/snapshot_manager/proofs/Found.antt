@@ -1,9 +1,10 @@
 -- What is found by name, and which id is last, after each call.
-use Rattle.std.proofs.Common.{◌≡◌, ℕ, ◌<◌, ◌≤◌, Bool, true, false, ◌&&◌, ◌==◌, cond, ◌⊎◌, inl, inr, nat_eq, if◌then◌else◌, List, [], ◌∷◌, ◌++◌, Option, Some, None, IsSome, refl, ap, subst, ◌∙◌, arith, eqb-true, max, unwrap_or}
+use Rattle.std.proofs.Common.{◌≡◌, ℕ, zero, suc, ◌<◌, ◌≤◌, Bool, true, false, ◌&&◌, ◌==◌, cond, ◌⊎◌, inl, inr, nat_eq, if◌then◌else◌, List, [], ◌∷◌, ◌++◌, Option, Some, None, IsSome, length, get_or, refl, ap, subst, ◌∙◌, arith, eqb-true, max, unwrap_or}
 use Rattle.std.specs.Prelude.{bytes_eq}
 use Rattle.std.specs.Option.{option_map}
-use Rattle.std.specs.List.{find}
+use Rattle.std.specs.List.{find, Contains}
 use Rattle.std.proofs.lemmas.Bool.{cases_Bool}
+use Rattle.std.proofs.lemmas.Bool.Decides.{Decides-eqb}
 use Rattle.hs_types.specs.declared.ids.InodeId.{InodeId}
 use Rattle.hs_types.specs.declared.ids.SnapId.{SnapId}
 use Rattle.hs_types.specs.declared.name.SnapItem.{SnapItem}
@@ -83,6 +84,58 @@ last_after_add s dir other item some p later = ap last_id (snaps_in-changed_ther
     by : (nat_eq dir.0 other.0 ≡ true) ⊎ (nat_eq dir.0 other.0 ≡ false) → last_id (if nat_eq dir.0 other.0 then snaps_in s other ++ item ∷ [] else snaps_in s other) ≡ (if dir.0 == other.0 then Some item.id else last_id (snaps_in s other))
     by (inl same) = rw same (last_push (snaps_in s other) item (subst (λ k. AllBelow item.id (snaps_in s k)) (same_dir dir other same) (all_below s dir item.id some p later)))
     by (inr apart) = rw apart refl
+
+pub last_after_remove : (s : Snapshots) (dir other : InodeId) (name : List ℕ) → last_id (snaps_in (changed dir (without name) s) other) ≡ (if dir.0 == other.0 then last_id (without name (snaps_in s other)) else last_id (snaps_in s other))
+last_after_remove s dir other name = ap last_id (snaps_in-changed dir other (without name) s refl) ∙ by (nat_eq dir.0 other.0)
+  where
+    by : (b : Bool) → last_id (if b then without name (snaps_in s other) else snaps_in s other) ≡ (if b then last_id (without name (snaps_in s other)) else last_id (snaps_in s other))
+    by true = refl
+    by false = refl
+
+-- what is left is no greater, and has each item of another name
+greatest_without : (name : List ℕ) (items : List SnapItem) → greatest (without name items) ≤ greatest items
+greatest_without name [] = omega arith
+greatest_without name (x ∷ xs) = elim (cases_Bool (has_name name x)) [
+  | inl gone ↦ rw gone (omega (arith, greatest_without name xs))
+  | inr left ↦ rw left (omega (arith, greatest_without name xs))
+]
+
+within_greatest : (name : List ℕ) (items : List SnapItem) (k : ℕ) (item : SnapItem) → k < length items → get_or items k item ≡ item → has_name name item ≡ false → item.id.0 ≤ greatest (without name items)
+within_greatest name [] k item lt is other = absurd (omega (arith, lt))
+within_greatest name (x ∷ xs) zero item lt is other =
+    let same : x.id.0 ≡ item.id.0 = ap (λ (i : SnapItem). i.id.0) is in
+    rw (ap (has_name name) is ∙ other) (omega (arith, same))
+within_greatest name (x ∷ xs) (suc k) item lt is other =
+    let rest = within_greatest name xs k item (omega (arith, lt)) is other in
+    elim (cases_Bool (has_name name x)) [
+      | inl gone ↦ rw gone rest
+      | inr left ↦ rw left (omega (arith, rest))
+    ]
+
+-- a list has an item that it keeps
+some_left : (name : List ℕ) (items : List SnapItem) (k : ℕ) (item : SnapItem) → k < length items → get_or items k item ≡ item → has_name name item ≡ false → last_id (without name items) ≡ Some (record { 0 = greatest (without name items) })
+some_left name [] k item lt is other = absurd (omega (arith, lt))
+some_left name (x ∷ xs) zero item lt is other = rw (ap (has_name name) is ∙ other) refl
+some_left name (x ∷ xs) (suc k) item lt is other = elim (cases_Bool (has_name name x)) [
+  | inl gone ↦ rw gone (some_left name xs k item (omega (arith, lt)) is other)
+  | inr left ↦ rw left refl
+]
+
+last_is_greatest : (items : List SnapItem) (id : SnapId) → last_id items ≡ Some id → greatest items ≡ id.0
+last_is_greatest [] id is = absurd (cc)
+last_is_greatest (x ∷ xs) id is = ap (λ (o : Option SnapId). or_zero o) is
+  where
+    or_zero : Option SnapId → ℕ
+    or_zero None = 0
+    or_zero (Some id) = id.0
+
+pub last_stays_after_remove : (s : Snapshots) (dir : InodeId) (name : List ℕ) (item : SnapItem) → Contains (snaps_in s dir) item → last_id (snaps_in s dir) ≡ Some item.id → has_name name item ≡ false
+    → last_id (snaps_in (changed dir (without name) s) dir) ≡ Some item.id
+last_stays_after_remove s dir name item one is other =
+    last_after_remove s dir dir name ∙ rw ((Decides-eqb dir.0 dir.0).1 refl) (some_left name (snaps_in s dir) one.0 item one.1 one.2 other ∙ ap (λ n. Some (record { 0 = n })) same)
+  where
+    same : greatest (without name (snaps_in s dir)) ≡ item.id.0
+    same = omega (arith, greatest_without name (snaps_in s dir), within_greatest name (snaps_in s dir) one.0 item one.1 one.2 other, last_is_greatest (snaps_in s dir) item.id is)
 
 greatest_renamed : (old new : List ℕ) (items : List SnapItem) → greatest (renamed old new items) ≡ greatest items
 greatest_renamed old new [] = refl

@@ -1,7 +1,7 @@
 -- What is found by name, and which id is last, after each call.
 use Rattle.std.specs.Prelude.{◌≡◌, ℕ, ◌<◌, false, ◌&&◌, ◌==◌, bytes_eq, List, Option, None, Some, IsSome, if◌then◌else◌}
 use Rattle.std.specs.Option.{option_map}
-use Rattle.std.specs.List.{find}
+use Rattle.std.specs.List.{find, Contains}
 use Rattle.hs_types.specs.declared.ids.InodeId.{InodeId}
 use Rattle.hs_types.specs.declared.ids.SnapId.{SnapId}
 use Rattle.hs_types.specs.declared.name.SnapItem.{SnapItem}
@@ -32,6 +32,15 @@ NamedAfterRename = (s : Snapshots) (dir other : InodeId) (old new name : List �
 -- the new one is the last
 abbrev pub LastAfterAdd : Type 0
 LastAfterAdd = (s : Snapshots) (dir other : InodeId) (item : SnapItem) → IsSome (snaps_of s dir) → IsProper s → s.issued.0 < item.id.0 → last_id (snaps_in (added dir item s) other) ≡ (if dir.0 == other.0 then Some item.id else last_id (snaps_in s other))
+
+-- the last one of a directory is that of what is left; another directory keeps its own
+abbrev pub LastAfterRemove : Type 0
+LastAfterRemove = (s : Snapshots) (dir other : InodeId) (name : List ℕ) → last_id (snaps_in (changed dir (without name) s) other) ≡ (if dir.0 == other.0 then last_id (without name (snaps_in s other)) else last_id (snaps_in s other))
+
+-- and it stays where another one is removed
+abbrev pub LastStaysAfterRemove : Type 0
+LastStaysAfterRemove = (s : Snapshots) (dir : InodeId) (name : List ℕ) (item : SnapItem) → Contains (snaps_in s dir) item → last_id (snaps_in s dir) ≡ Some item.id → has_name name item ≡ false
+    → last_id (snaps_in (changed dir (without name) s) dir) ≡ Some item.id
 
 -- another name leaves the last one
 abbrev pub LastAfterRename : Type 0

@@ -1,5 +1,5 @@
 //! What each call leaves of what is found, by directory and over all live snapshots as one list in order of making.
-ghost use Rattle.snapshot_manager.specs.LookUps.{NamedAfterAdd, NamedAfterRemove, NamedAfterRename, LastAfterAdd, LastAfterRename};
+ghost use Rattle.snapshot_manager.specs.LookUps.{NamedAfterAdd, NamedAfterRemove, NamedAfterRename, LastAfterAdd, LastAfterRemove, LastStaysAfterRemove, LastAfterRename};
 ghost use Rattle.snapshot_manager.specs.Members.{MembersAtStart, MembersAllowed, MembersDisallowed, MembersAdded, MembersRemoved, MembersRenamed, MembersFound, MembersLive};
 
 /// At the start there is none.
@@ -60,6 +60,16 @@ pub fn named_after_rename()
 /// A new snapshot is its directory's last.
 pub fn last_after_add()
     ensures { LastAfterAdd }
+{}
+
+/// As a snapshot goes, the last one is that of what is left.
+pub fn last_after_remove()
+    ensures { LastAfterRemove }
+{}
+
+/// It stays where another one goes.
+pub fn last_stays_after_remove()
+    ensures { LastStaysAfterRemove }
 {}
 
 /// Another name leaves the last one.
