@@ -1,5 +1,5 @@
 -- What is read as one record of one row is taken away.
-use Rattle.std.proofs.Common.{◌≡◌, ℕ, zero, suc, ◌+◌, ◌<◌, ◌≤◌, true, false, cond, List, [], ◌∷◌, map, Option, Some, None, length, refl, sym, ap, subst, ◌∙◌, arith}
+use Rattle.std.proofs.Common.{◌≡◌, ℕ, zero, suc, ◌<◌, ◌≤◌, true, false, cond, List, [], ◌∷◌, map, Option, Some, None, length, refl, sym, ap, subst, ◌∙◌, arith}
 use Rattle.std.specs.Prelude.{◌≢◌, remove}
 use Rattle.std.specs.Option.{option_map}
 use Rattle.std.specs.Ordering.{eq_by_cmp, is_eq}
@@ -8,7 +8,6 @@ use Rattle.std.specs.FinMap.Entries.{put, by_order}
 use Rattle.std.specs.declared.cmp.Ordering.TheVariants.{Less, Equal, Greater}
 use Rattle.std.proofs.lemmas.Bool.Decides.{nat_tests}
 use Rattle.hs_types.specs.declared.ids.InodeId.{InodeId}
-use Rattle.hs_plain.proofs.ValidShapes.{none_some, same_some}
 use Rattle.file_changes.specs.History as files
 use Rattle.file_changes.specs.History.{FileHistory}
 use Rattle.file_changes.specs.declared.state.FileRecord.{FileRecord}
@@ -17,11 +16,12 @@ use Rattle.file_changes.proofs.Reading.{state_at-below_removed, state_at-above_r
 use Rattle.dir_changes.specs.History as dirs
 use Rattle.dir_changes.specs.History.{DirHistory, Past}
 use Rattle.dir_changes.proofs.ReadLaws.{children_at-combined_below, children_at-combined_above, marks_at-combined_below, marks_at-combined_above}
-use Rattle.inode_table.specs.RowHistory.{RowHistory, RowState, File, Dir, Table, row_at, rows_at, marks_of, mark_of, id_order, file_node, dir_node, ReadsAlike}
+use Rattle.inode_table.specs.RowHistory.{RowHistory, RowState, File, Dir, Table, row_at, marks_of, mark_of, id_order, file_node, dir_node, ReadsAlike}
 use Rattle.inode_table.specs.Records.{before_at, at_or, Merges}
 use Rattle.inode_table.specs.Whole.{numbers_in}
 use Rattle.inode_table.specs.Tabled.{Tabled}
-use Rattle.inode_table.specs.Merged.{merged_rows, ids_dropped, merged_from, merged, IsSoundRows, MergesOne}
+use Rattle.inode_table.specs.Kept.{AreSound}
+use Rattle.inode_table.specs.Merged.{merged_rows, ids_dropped, merged_from, merged, MergesOne}
 use Rattle.inode_table.proofs.Reading.{by_id}
 use Rattle.inode_table.proofs.Going.{kept-all-less}
 
@@ -89,7 +89,7 @@ merged_numbers i (Dir dir) = combined_numbers i dir.records
 
 -- ---- readings
 
-merged_reads : (i : ℕ) (rows : RowHistory) → IsSoundRows rows → i < length (numbers_in rows) → Merges i (numbers_in rows) rows (merged_rows i rows)
+merged_reads : (i : ℕ) (rows : RowHistory) → AreSound rows → i < length (numbers_in rows) → Merges i (numbers_in rows) rows (merged_rows i rows)
 merged_reads i (File file) sound lt = record {
   below = λ s le. alike s (state_at-below_removed file i s (subst (λ n. s ≤ n) (file_before file.records i within) le));
   above = λ s gt. alike s (state_at-above_removed file i s (subst (λ n. n < s) (file_at file.records i) gt));
@@ -137,21 +137,21 @@ put_there id x v (e ∷ es) apart = elim (id_order id e.0) as (λ o. id_order id
   | Greater ↦ λ t. ap (λ o. cond (eq_by_cmp id_order x e.0) (Some e.1) o) (put_there id x v es apart)
 ] refl
 
-put_here : (id : InodeId) (v : RowState) (t : Table) → row_at (put id_order id v t) id ≡ Some v
-put_here id v [] = ap (λ b. cond b (Some v) None) (tied id)
-put_here id v (e ∷ es) = elim (id_order id e.0) as (λ o. id_order id e.0 ≡ o → row_at (by_order o ((id, v) ∷ e ∷ es) ((e.0, v) ∷ es) (e ∷ put id_order id v es)) id ≡ Some v) [
+pub put-here : (id : InodeId) (v : RowState) (t : Table) → row_at (put id_order id v t) id ≡ Some v
+put-here id v [] = ap (λ b. cond b (Some v) None) (tied id)
+put-here id v (e ∷ es) = elim (id_order id e.0) as (λ o. id_order id e.0 ≡ o → row_at (by_order o ((id, v) ∷ e ∷ es) ((e.0, v) ∷ es) (e ∷ put id_order id v es)) id ≡ Some v) [
   | Less ↦ λ t. ap (λ b. cond b (Some v) (row_at (e ∷ es) id)) (tied id)
   | Equal ↦ λ t. ap (λ o. cond (is_eq o) (Some v) (row_at es id)) t
-  | Greater ↦ λ t. ap (λ o. cond (is_eq o) (Some e.1) (row_at (put id_order id v es) id)) t ∙ put_here id v es
+  | Greater ↦ λ t. ap (λ o. cond (is_eq o) (Some e.1) (row_at (put id_order id v es) id)) t ∙ put-here id v es
 ] refl
 
-pub merged-one : (t : Tabled) (id : InodeId) (i : ℕ) (row : RowState) → row_at t.rows id ≡ Some row → IsSoundRows row.rows → i < length (numbers_in row.rows)
+pub merged-one : (t : Tabled) (id : InodeId) (i : ℕ) (row : RowState) → row_at t.rows id ≡ Some row → AreSound row.rows → i < length (numbers_in row.rows)
     → MergesOne t.rows (merged id i t).rows id i row.rows (merged_rows i row.rows)
 merged-one t id i row there sound within = subst (λ (o : Option RowState). MergesOne t.rows (merged_from id i o t).rows id i row.rows (merged_rows i row.rows)) (sym there) (record {
-  here = kept-all-less (option_map (λ (r : RowState). r.rows)) (λ r n. refl) (ids_dropped i row.rows) id (put id_order id (record row { rows = merged_rows i row.rows }) t.rows) ∙ ap (option_map (λ (r : RowState). r.rows)) (put_here id (record row { rows = merged_rows i row.rows }) t.rows);
+  here = kept-all-less (option_map (λ (r : RowState). r.rows)) (λ r n. refl) (ids_dropped i row.rows) id (put id_order id (record row { rows = merged_rows i row.rows }) t.rows) ∙ ap (option_map (λ (r : RowState). r.rows)) (put-here id (record row { rows = merged_rows i row.rows }) t.rows);
   there = λ other apart. kept-all-less (option_map (λ (r : RowState). r.rows)) (λ r n. refl) (ids_dropped i row.rows) other (put id_order id (record row { rows = merged_rows i row.rows }) t.rows) ∙ ap (option_map (λ (r : RowState). r.rows)) (put_there id other (record row { rows = merged_rows i row.rows }) t.rows apart);
   marks = λ other. kept-all-less mark_of (λ r n. refl) (ids_dropped i row.rows) other (put id_order id (record row { rows = merged_rows i row.rows }) t.rows) ∙ by_id other id
-      (λ e. ap (λ (j : InodeId). marks_of (put id_order id (record row { rows = merged_rows i row.rows }) t.rows) j) e ∙ ap mark_of (put_here id (record row { rows = merged_rows i row.rows }) t.rows) ∙ sym (ap mark_of there) ∙ sym (ap (λ (j : InodeId). marks_of t.rows j) e))
+      (λ e. ap (λ (j : InodeId). marks_of (put id_order id (record row { rows = merged_rows i row.rows }) t.rows) j) e ∙ ap mark_of (put-here id (record row { rows = merged_rows i row.rows }) t.rows) ∙ sym (ap mark_of there) ∙ sym (ap (λ (j : InodeId). marks_of t.rows j) e))
       (λ apart. ap mark_of (put_there id other (record row { rows = merged_rows i row.rows }) t.rows apart));
   numbers = merged_numbers i row.rows;
   reads = merged_reads i row.rows sound within;

@@ -10,7 +10,7 @@ use Rattle.hs_plain.specs.declared.state.Member.{Member}
 use Rattle.hs_plain.specs.Tree.{same_inode}
 use Rattle.hs_plain.proofs.ValidShapes.{none_some, same_some, true_false}
 use Rattle.inode_table.specs.Reads.{Nodes, Has, Child, child, id_of}
-use Rattle.inode_table.specs.Marks.{Mark, Marks, InCopy, AreMarks, last_of, marked, cover_from, cover, Leads, IsChain, IsTop}
+use Rattle.inode_table.specs.Marks.{Mark, RowMarks, InCopy, AreMarks, last_of, marked, cover_from, cover, Leads, IsChain, IsTop}
 use Rattle.inode_table.proofs.Reading.{by_id}
 
 -- the step at one row
@@ -45,7 +45,7 @@ pub some_id : {B : Type 0} (o : Option (Node B)) (x : InodeId) → id_of o ≡ S
 some_id None x h = absurd (none_some h)
 some_id (Some n) x h = (n, refl, same_some h)
 
-module _ {B : Type 0} (live : Nodes B) (members : List (Member B)) (marks : Marks) (issued : ℕ) (are : AreMarks live members marks issued) (m : Member B) (is_live : Contains members m) where
+module _ {B : Type 0} (live : Nodes B) (members : List (Member B)) (marks : RowMarks) (issued : ℕ) (are : AreMarks live members marks issued) (m : Member B) (is_live : Contains members m) where
   -- the number is enough for a parent's copy, and so for a child's
   step : (p x : InodeId) (n : ℕ) → Child live p x → Has live x → (InCopy m p → m.snapshot.0 ≤ n) → InCopy m x → m.snapshot.0 ≤ marked (marks x) (max n (last_of members x))
   step p x n below has_x enough copied = marked-above (marks x) (max n (last_of members x)) m.snapshot.0
@@ -78,7 +78,7 @@ module _ {B : Type 0} (live : Nodes B) (members : List (Member B)) (marks : Mark
       marked-above (marks y) (max 0 (last_of members y)) m.snapshot.0 (λ _. omega arith) (λ upto. let above = is_top.above m is_live in omega arith))
       leads.1 is_x copied
 
-pub cover-bound : {B : Type 0} (live : Nodes B) (members : List (Member B)) (marks : Marks) (issued : ℕ) (top : InodeId) (path : Names) (chain : List InodeId) (x : InodeId) (m : Member B)
+pub cover-bound : {B : Type 0} (live : Nodes B) (members : List (Member B)) (marks : RowMarks) (issued : ℕ) (top : InodeId) (path : Names) (chain : List InodeId) (x : InodeId) (m : Member B)
     → AreMarks live members marks issued → IsTop members marks top → id_of (live []) ≡ Some top → IsChain live path chain → id_of (live path) ≡ Some x
     → Contains members m → InCopy m x → m.snapshot.0 ≤ cover (last_of members) marks chain
 cover-bound live members marks issued top path chain x m are is_top root leads is_x within copied = covered live members marks issued are m within top path chain x is_top root leads is_x copied

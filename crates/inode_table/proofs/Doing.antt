@@ -17,7 +17,7 @@ use Rattle.hs_plain.proofs.ValidChanges.{put_here, put_there}
 use Rattle.std.proofs.lemmas.List.{append_cancel_left}
 use Rattle.dir_changes.specs.Entries.{id_at, with_entry, without_name}
 use Rattle.inode_table.specs.Reads.{Shown, Nodes, ReadsAs, IsNodes, Has, Child, child, id_of}
-use Rattle.inode_table.specs.Marks.{Mark, Marks, InCopy, AreMarks, IsTop, last_of, cover}
+use Rattle.inode_table.specs.Marks.{Mark, RowMarks, InCopy, AreMarks, IsTop, last_of, cover}
 use Rattle.inode_table.specs.RowHistory.{Table, RowHistory, rows_at, shown, marks_of, node_in, entries_in, spot_in, entries_of, IsFrozen}
 use Rattle.inode_table.specs.Stands.{Stands, Edits, root_id}
 use Rattle.inode_table.specs.Deeds.{ChangesAt, Inserts}
@@ -39,7 +39,7 @@ module _ (state : State FileBlocks) (issued : ℕ) (before after : Table) (path 
       stands.frozen
 
   pub marks-at : (tree : Tree FileBlocks) → ((p y : InodeId) → Child (node_at tree) p y → Child (node_at state.tree) p y) → ((y : InodeId) → Has (node_at tree) y → Has (node_at state.tree) y) → AreMarks (node_at tree) state.members (marks_of after) issued
-  marks-at tree kid has = subst (λ (k : Marks). AreMarks (node_at tree) state.members k issued) (λ i id. sym (change.step.marks id) i)
+  marks-at tree kid has = subst (λ (k : RowMarks). AreMarks (node_at tree) state.members k issued) (λ i id. sym (change.step.marks id) i)
       (marks-fewer (node_at state.tree) (node_at tree) state.members state.members (marks_of before) issued kid has (λ m within. within) stands.marks)
 
   pub top-at : IsTop state.members (marks_of after) root_id

@@ -1,5 +1,5 @@
 -- Steps of loops that name rows less, and let blocks wait.
-use Rattle.std.proofs.Common.{◌≡◌, ℕ, zero, suc, ◌+◌, ◌<◌, List, [], ◌∷◌, ◌++◌, map, Option, Some, None, slice_get, get_or, drop, length, refl, sym, ap, ◌∙◌, append_assoc, add-one, arith}
+use Rattle.std.proofs.Common.{◌≡◌, ℕ, zero, suc, ◌+◌, List, [], ◌∷◌, ◌++◌, Option, Some, None, slice_get, drop, length, refl, sym, ap, ◌∙◌, append_assoc, add-one}
 use Rattle.std.specs.Option.{option_map}
 use Rattle.hs_types.specs.declared.ids.BlockId.{BlockId}
 use Rattle.hs_types.specs.declared.ids.InodeId.{InodeId}
@@ -7,7 +7,6 @@ use Rattle.file_changes.specs.History as files
 use Rattle.file_changes.specs.History.{FileHistory, blocks_at, only_at}
 use Rattle.file_changes.specs.declared.state.FileRecord.{FileRecord}
 use Rattle.file_changes.specs.declared.state.FileState.{FileState}
-use Rattle.dir_changes.specs.Entries.{Entry, Entries}
 use Rattle.dir_changes.specs.History.{Past, ids_of}
 use Rattle.dir_changes.specs.Counts.{deleted_ids}
 use Rattle.inode_table.specs.Totals.{blocks_saved}

@@ -17,7 +17,7 @@ last_from-append : (n : ℕ) (rs : List Past) (r : Past) → last_from n (rs ++ 
 last_from-append n [] r = refl
 last_from-append n (p ∷ rs) r = last_from-append p.number.0 rs r
 
-last_from-changed : (f : ListDiff → ListDiff) (n : ℕ) (rs : List Past) → last_from n (change_last f rs) ≡ last_from n rs
+pub last_from-changed : (f : ListDiff → ListDiff) (n : ℕ) (rs : List Past) → last_from n (change_last f rs) ≡ last_from n rs
 last_from-changed f n [] = refl
 last_from-changed f n (p ∷ []) = refl
 last_from-changed f n (p ∷ q ∷ rs) = last_from-changed f p.number.0 (q ∷ rs)

@@ -17,7 +17,7 @@ use Rattle.hs_plain.proofs.ValidTrees.{first, second}
 use Rattle.hs_plain.proofs.ValidShapes.{parent_of-last, same_some, true_false}
 use Rattle.hs_plain.proofs.ValidPlaces.{place_passes, one_place, head_at, in_tail}
 use Rattle.inode_table.specs.Reads.{IsNodes, Has, child}
-use Rattle.inode_table.specs.Marks.{Marks, InCopy, IsTop}
+use Rattle.inode_table.specs.Marks.{RowMarks, InCopy, IsTop}
 use Rattle.inode_table.specs.Stands.{root_id}
 use Rattle.inode_table.specs.FromValid.{GivesNodes}
 use Rattle.inode_table.proofs.Reading.{same_id_so}
@@ -82,7 +82,7 @@ above_all low (o ∷ ms) m (suc k) rise lt e =
     let here : low < o.snapshot.0 = (Decides-ltb low o.snapshot.0).0 (first (nat_lt low o.snapshot.0) _ rise) in
     let rest : o.snapshot.0 < m.snapshot.0 = above_all o.snapshot.0 ms m k (second (nat_lt low o.snapshot.0) _ rise) (omega arith) e in omega arith
 
-pub top-valid : (state : State FileBlocks) (marks : Marks) → IsValid state → (marks root_id).since ≡ 0 → IsTop state.members marks root_id
+pub top-valid : (state : State FileBlocks) (marks : RowMarks) → IsValid state → (marks root_id).since ≡ 0 → IsTop state.members marks root_id
 top-valid state marks valid since = record {
   own = own;
   above = λ m is_live. above_all 0 state.members m is_live.0 valid.snapshots_rise is_live.1 is_live.2;

@@ -1,13 +1,12 @@
 -- What is left as rows go in turn.
-use Rattle.std.proofs.Common.{◌≡◌, ℕ, ◌+◌, ◌<◌, ◌≤◌, Bool, true, false, cond, List, [], ◌∷◌, ◌++◌, Option, Some, None, refl, sym, ap, subst, ◌∙◌, arith}
+use Rattle.std.proofs.Common.{◌≡◌, ℕ, ◌≤◌, true, false, cond, List, [], ◌∷◌, ◌++◌, map, Option, Some, None, refl, sym, ap, subst, ◌∙◌, arith}
 use Rattle.std.specs.Prelude.{◌-◌, ◌≢◌, not}
 use Rattle.std.specs.List.{Contains}
 use Rattle.std.specs.Option.{option_map}
 use Rattle.std.specs.Ordering.{eq_by_cmp}
 use Rattle.std.specs.FinMap.{nat_cmp-IsAntisymmetric}
 use Rattle.std.specs.FinMap.Entries.{find-where_key}
-use Rattle.std.specs.declared.cmp.Ordering.TheVariants.{Equal}
-use Rattle.std.proofs.lemmas.Bool.Decides.{Decides-eqb, nat_tests}
+use Rattle.std.proofs.lemmas.Bool.Decides.{Decides-eqb}
 use Rattle.hs_types.specs.declared.ids.InodeId.{InodeId}
 use Rattle.hs_plain.specs.declared.state.Member.{Member}
 use Rattle.hs_plain.specs.declared.state.State.{State}
@@ -15,33 +14,33 @@ use Rattle.hs_plain.specs.declared.state.FileBlocks.{FileBlocks}
 use Rattle.hs_plain.specs.Tree.{node_at, same_inode}
 use Rattle.hs_plain.proofs.ValidShapes.{none_some, same_some}
 use Rattle.inode_table.specs.Reads.{IsNodes, Has}
-use Rattle.inode_table.specs.RowHistory.{RowHistory, RowState, Table, row_at, rows_at, marks_of, mark_of, id_order}
-use Rattle.inode_table.specs.Stands.{Stands, root_id}
+use Rattle.inode_table.specs.RowHistory.{RowHistory, RowState, Table, row_at, rows_at, mark_of, id_order}
+use Rattle.inode_table.specs.Stands.{Stands}
 use Rattle.dir_changes.specs.Counts.{times}
 use Rattle.inode_table.specs.Names.{named_in, times_named, Releases}
-use Rattle.inode_table.specs.Tabled.{Tabled, named_less}
+use Rattle.inode_table.specs.Tabled.{Tabled, named_less, recounted_row}
 use Rattle.inode_table.specs.Released.{all_named_less, without_row, let_go, MayGo, ReleasedBy}
 use Rattle.inode_table.proofs.Naming.{release-stands}
 
 -- ---- what doesn't look at names
 
 module _ {Y : Type 0} (h : Option RowState → Y) (blind : (r : RowState) (n : ℕ) → h (Some (record r { names = n })) ≡ h (Some r)) where
-  kept_less : (id x : InodeId) (t : Table) → h (row_at (named_less id t) x) ≡ h (row_at t x)
-  kept_less id x [] = refl
-  kept_less id x (e ∷ es) = elim (same_inode e.0 id) as (λ b. h (cond (eq_by_cmp id_order x (cond b (e.0, record e.1 { names = e.1.names - 1 }) e).0) (Some (cond b (e.0, record e.1 { names = e.1.names - 1 }) e).1) (row_at (named_less id es) x)) ≡ h (row_at (e ∷ es) x)) [
-    | true ↦ elim (eq_by_cmp id_order x e.0) as (λ b. h (cond b (Some (record e.1 { names = e.1.names - 1 })) (row_at (named_less id es) x)) ≡ h (cond b (Some e.1) (row_at es x))) [
-      | true ↦ blind e.1 (e.1.names - 1)
-      | false ↦ kept_less id x es
+  pub kept-recounted : (f : ℕ → ℕ) (id x : InodeId) (t : Table) → h (row_at (map (recounted_row f id) t) x) ≡ h (row_at t x)
+  kept-recounted f id x [] = refl
+  kept-recounted f id x (e ∷ es) = elim (same_inode e.0 id) as (λ b. h (cond (eq_by_cmp id_order x (cond b (e.0, record e.1 { names = f e.1.names }) e).0) (Some (cond b (e.0, record e.1 { names = f e.1.names }) e).1) (row_at (map (recounted_row f id) es) x)) ≡ h (row_at (e ∷ es) x)) [
+    | true ↦ elim (eq_by_cmp id_order x e.0) as (λ b. h (cond b (Some (record e.1 { names = f e.1.names })) (row_at (map (recounted_row f id) es) x)) ≡ h (cond b (Some e.1) (row_at es x))) [
+      | true ↦ blind e.1 (f e.1.names)
+      | false ↦ kept-recounted f id x es
     ]
-    | false ↦ elim (eq_by_cmp id_order x e.0) as (λ b. h (cond b (Some e.1) (row_at (named_less id es) x)) ≡ h (cond b (Some e.1) (row_at es x))) [
+    | false ↦ elim (eq_by_cmp id_order x e.0) as (λ b. h (cond b (Some e.1) (row_at (map (recounted_row f id) es) x)) ≡ h (cond b (Some e.1) (row_at es x))) [
       | true ↦ refl
-      | false ↦ kept_less id x es
+      | false ↦ kept-recounted f id x es
     ]
   ]
 
   pub kept-all-less : (ids : List InodeId) (x : InodeId) (t : Table) → h (row_at (all_named_less ids t) x) ≡ h (row_at t x)
   kept-all-less [] x t = refl
-  kept-all-less (id ∷ ids) x t = kept-all-less ids x (named_less id t) ∙ kept_less id x t
+  kept-all-less (id ∷ ids) x t = kept-all-less ids x (named_less id t) ∙ kept-recounted (λ n. n - 1) id x t
 
 is_other : (id x : InodeId) → x ≢ id → same_inode x id ≡ false
 is_other id x apart = elim (same_inode x id) as (λ b. same_inode x id ≡ b → b ≡ false) [

@@ -1,9 +1,9 @@
 -- Rows count their names truly, as one goes and others are named less.
-use Rattle.std.proofs.Common.{◌≡◌, ℕ, zero, suc, ◌+◌, ◌-◌, ◌<◌, ◌≤◌, Bool, true, false, cond, nat_eq, List, [], ◌∷◌, ◌++◌, map, Option, Some, None, slice_get, set, get_or, length, refl, sym, ap, subst, ◌∙◌, append_assoc, length-append, length-set, ⊎_elim, arith}
+use Rattle.std.proofs.Common.{◌≡◌, ℕ, zero, suc, ◌+◌, ◌-◌, ◌<◌, ◌≤◌, Bool, true, false, cond, nat_eq, List, [], ◌∷◌, ◌++◌, Option, Some, None, slice_get, set, get_or, length, refl, sym, ap, subst, ◌∙◌, append_assoc, length-append, length-set, ⊎_elim, arith}
 use Rattle.std.specs.Prelude.{◌≢◌, not, filter, remove}
 use Rattle.std.specs.List.{Contains}
 use Rattle.std.specs.Option.{option_map}
-use Rattle.std.proofs.lemmas.Bool.Decides.{Decides-eqb, nat_tests}
+use Rattle.std.proofs.lemmas.Bool.Decides.{Decides-eqb}
 use Rattle.std.proofs.lemmas.List.Elements.{Contains-append_cases}
 use Rattle.hs_types.specs.declared.ids.BlockId.{BlockId}
 use Rattle.hs_types.specs.declared.ids.InodeId.{InodeId}
@@ -13,37 +13,23 @@ use Rattle.file_changes.specs.History as files
 use Rattle.file_changes.specs.History.{FileHistory, blocks_at, only_at, names}
 use Rattle.dir_changes.specs.Counts.{times, one_where, same_id}
 use Rattle.inode_table.specs.declared.row.Row.{Row}
-use Rattle.inode_table.specs.RowHistory.{RowHistory, RowState, File, Dir, Table, rows_at, row_at}
+use Rattle.inode_table.specs.RowHistory.{RowHistory, RowState, File, Dir, Table}
 use Rattle.inode_table.specs.Stands.{root_id}
 use Rattle.inode_table.specs.Names.{named_in, times_named}
-use Rattle.inode_table.specs.Numbered.{numbered, history_of, state_of, at_place, flat}
+use Rattle.inode_table.specs.Numbered.{history_of, state_of, at_place, flat}
 use Rattle.inode_table.specs.Indexed.{Index}
 use Rattle.inode_table.specs.Totals.{total, block_count, blocks_saved, blocks_named, weight, records_in, entries_of}
 use Rattle.inode_table.specs.Tabled.{Tabled}
-use Rattle.inode_table.specs.Released.{all_named_less, without_row, blocks_below, blocks_in, let_go, MayGo, ReleasedBy, Releasing}
-use Rattle.inode_table.specs.Slots.{Slots, table_in, is_named, named_rows, AreCounted, AreListed, AreListedBut}
+use Rattle.inode_table.specs.Released.{all_named_less, blocks_below, blocks_in, MayGo, ReleasedBy, Releasing}
+use Rattle.inode_table.specs.Slots.{Slots, table_in, named_rows, AreCounted, AreListed, AreListedBut}
 use Rattle.inode_table.specs.Lessened.{lessened, lessen_at, lessen_all, is_last, ended_at, ended, told_in, HaveGone, Steady}
 use Rattle.inode_table.specs.Whole.{AllNamed}
 use Rattle.inode_table.proofs.Reading.{by_id}
-use Rattle.inode_table.proofs.Numbers.{found}
-use Rattle.inode_table.proofs.Telling.{row-told}
-use Rattle.inode_table.proofs.Places.{table-emptied, table-less, table-all-less, total-written, total-less, named-less}
+use Rattle.inode_table.proofs.Placing.{place-set-there, place-within, slot-told}
+use Rattle.inode_table.proofs.Places.{table-emptied, table-all-less, total-written, total-less, named-less}
 use Rattle.inode_table.proofs.Going.{released-more}
 
 -- ---- what stands at a place
-
-get_other : {X : Type 0} (xs : List X) (i j : ℕ) (v : X) → (j ≡ i → ⊥) → slice_get (set xs i v) j ≡ slice_get xs j
-get_other [] i j v apart = refl
-get_other (x ∷ xs) zero zero v apart = absurd (apart refl)
-get_other (x ∷ xs) zero (suc j) v apart = refl
-get_other (x ∷ xs) (suc i) zero v apart = refl
-get_other (x ∷ xs) (suc i) (suc j) v apart = get_other xs i j v (λ e. apart (ap (λ n. suc n) e))
-
-same_number : (a b : InodeId) → a.0 ≡ b.0 → a ≡ b
-same_number a b e = ap (λ (n : ℕ). record { 0 = n }) e
-
-pub at_other : (rows : Slots) (id other : InodeId) (v : Option Row) → other ≢ id → at_place (set rows id.0 v) other ≡ at_place rows other
-at_other rows id other v apart = ap flat (get_other rows id.0 other.0 v (λ e. apart (same_number other id e)))
 
 at_emptied_from : (rows : Slots) (i : ℕ) → flat (slice_get (set rows i None) i) ≡ None
 at_emptied_from [] i = refl
@@ -60,14 +46,6 @@ at_emptied rows id = at_emptied_from rows id.0
 
 pub at_less : (rows : Slots) (id : InodeId) → at_place (lessen_at id rows) id ≡ option_map lessened (at_place rows id)
 at_less rows id = at_less_from rows id.0
-
-within_from : (rows : Slots) (i : ℕ) (row : Row) → flat (slice_get rows i) ≡ Some row → i < length rows
-within_from [] i row h = absurd (none_some h)
-within_from (slot ∷ rows) zero row h = omega arith
-within_from (slot ∷ rows) (suc i) row h = let rest = within_from rows i row h in omega (arith, rest)
-
-pub place-within : (rows : Slots) (id : InodeId) (row : Row) → at_place rows id ≡ Some row → id.0 < length rows
-place-within rows id row h = within_from rows id.0 row h
 
 -- the row that was lessened to one
 module _ {P : Type 0} (row : Row) where
@@ -86,7 +64,7 @@ module _ (rows : Slots) (id : InodeId) where
 
   not_own : (x : InodeId) → x ≢ id → one_where (same_id id x) ≡ 0
   not_own x apart = elim (same_id id x) as (λ b. same_id id x ≡ b → one_where b ≡ 0) [
-    | true ↦ λ e. absurd (apart (sym (same_number id x ((Decides-eqb id.0 x.0).0 e))))
+    | true ↦ λ e. absurd (apart (sym (ap (λ (n : ℕ). record { 0 = n }) ((Decides-eqb id.0 x.0).0 e))))
     | false ↦ λ e. refl
   ] refl
 
@@ -94,10 +72,10 @@ module _ (rows : Slots) (id : InodeId) where
   counted-less rest are = record {
     counted = λ x row h. by_id x id
         (λ e. here x row e (at_less rows id) h)
-        (λ ne. let was = are.counted x row (sym (at_other rows id x (option_map lessened (at_place rows id)) ne) ∙ h) in let same = names_kept x in let none = not_own x ne in omega (arith, was, same, none));
+        (λ ne. let was = are.counted x row (sym (place-set-there rows id x (option_map lessened (at_place rows id)) ne) ∙ h) in let same = names_kept x in let none = not_own x ne in omega (arith, was, same, none));
     there = λ x some. let same = names_kept x in let old = are.there x (omega (arith, some, same)) in by_id x id
         (λ e. (lessened old.0, ap (at_place (lessen_at id rows)) e ∙ at_less rows id ∙ ap (λ (i : InodeId). option_map lessened (at_place rows i)) (sym e) ∙ ap (option_map lessened) old.1))
-        (λ ne. (old.0, at_other rows id x (option_map lessened (at_place rows id)) ne ∙ old.1));
+        (λ ne. (old.0, place-set-there rows id x (option_map lessened (at_place rows id)) ne ∙ old.1));
   }
     where
       here : (x : InodeId) (row : Row) → x ≡ id → at_place (lessen_at id rows) id ≡ option_map lessened (at_place rows id) → at_place (lessen_at id rows) x ≡ Some row → row.names ≡ times_named x (table_in (lessen_at id rows)) + times x rest
@@ -111,10 +89,10 @@ module _ (rows : Slots) (id : InodeId) where
   counted-emptied row there none are = record {
     counted = λ x r h. by_id x id
         (λ e. absurd (none_some (sym (at_emptied rows id) ∙ ap (at_place (set rows id.0 None)) (sym e) ∙ h)))
-        (λ ne. let was = are.counted x r (sym (at_other rows id x None ne) ∙ h) in let sum = taken x in omega (arith, was, sum));
+        (λ ne. let was = are.counted x r (sym (place-set-there rows id x None ne) ∙ h) in let sum = taken x in omega (arith, was, sum));
     there = λ x some. let sum = taken x in let old = are.there x (omega (arith, some, sum)) in by_id x id
         (λ e. absurd (let is_row : old.0 ≡ row = same_some (sym old.1 ∙ ap (at_place rows) e ∙ there) in let count = are.counted x old.0 old.1 in let names : old.0.names ≡ row.names = ap (λ (r : Row). r.names) is_row in omega (arith, count, names, none, some, sum)))
-        (λ ne. (old.0, at_other rows id x None ne ∙ old.1));
+        (λ ne. (old.0, place-set-there rows id x None ne ∙ old.1));
   }
     where
       taken : (x : InodeId) → times_named x (table_in (set rows id.0 None)) + times x (named_in (history_of row.rows)) ≡ times_named x (table_in rows) + 0
@@ -147,7 +125,7 @@ listed-less rows id unnamed are x row h not_root none = by_id x id
     (λ e. from_less row (at_place rows id) (sym (at_less rows id) ∙ ap (at_place (lessen_at id rows)) (sym e) ∙ h) (λ old was is.
     let zero_names : old.names - 1 ≡ 0 = ap (λ (r : Row). r.names) (sym is) ∙ none in
     subst (λ (i : InodeId). Contains (unnamed ++ ended_at id rows) i) (sym e) (ends old was (λ e2. not_root (e ∙ e2)) old.names refl zero_names)))
-    (λ ne. in_front unnamed (ended_at id rows) x (are x row (sym (at_other rows id x (option_map lessened (at_place rows id)) ne) ∙ h) not_root none))
+    (λ ne. in_front unnamed (ended_at id rows) x (are x row (sym (place-set-there rows id x (option_map lessened (at_place rows id)) ne) ∙ h) not_root none))
   where
     ends : (old : Row) → at_place rows id ≡ Some old → id ≢ root_id → (n : ℕ) → old.names ≡ n → n - 1 ≡ 0 → Contains (unnamed ++ ended_at id rows) id
     ends old was other zero is low = in_front unnamed (ended_at id rows) id (are id old was other is)
@@ -163,7 +141,7 @@ listed-all-less (id ∷ ids) rows unnamed are =
 pub listed-emptied : (rows : Slots) (id : InodeId) (unnamed : List InodeId) → AreListedBut id rows unnamed → AreListed (set rows id.0 None) unnamed
 listed-emptied rows id unnamed are x row h not_root none = by_id x id
     (λ e. absurd (none_some (sym (at_emptied rows id) ∙ ap (at_place (set rows id.0 None)) (sym e) ∙ h)))
-    (λ ne. are x row (sym (at_other rows id x None ne) ∙ h) not_root ne none)
+    (λ ne. are x row (sym (place-set-there rows id x None ne) ∙ h) not_root ne none)
 
 only_one : (y x : InodeId) (k : ℕ) → k < length (y ∷ []) → get_or (y ∷ []) k x ≡ x → x ≡ y
 only_one y x zero lt e = sym e
@@ -231,9 +209,6 @@ blocks-emptied rows id row there = let sum = subst (λ (o : Option Row). blocks_
 
 -- ---- the plain rows
 
-pub told-row : (rows : Slots) (id : InodeId) → row_at (table_in rows) id ≡ option_map state_of (at_place rows id)
-told-row rows id = row-told (numbered 0 rows) id ∙ ap (option_map state_of) (found id rows)
-
 pub none-gone : (rows : Slots) (waiting : List BlockId) → HaveGone 0 rows rows waiting waiting
 none-gone rows waiting = record { gone = []; count = refl; steps = λ index greatest. refl }
 
@@ -249,10 +224,10 @@ gone-more n old rows waited waiting id row have are there not_root none = record
 }
   where
     may : MayGo (table_in rows) id (state_of row)
-    may = record { there = told-row rows id ∙ ap (option_map state_of) there; not_root = not_root; not_named = let count = are.counted id row there in omega (arith, count, none) }
+    may = record { there = slot-told rows id ∙ ap (option_map state_of) there; not_root = not_root; not_named = let count = are.counted id row there in omega (arith, count, none) }
 
 pub all-named : (rows : Slots) → AreCounted rows [] → AreListed rows [] → AllNamed (table_in rows)
-all-named rows are listed id history h not_root = by (at_place rows id) refl (sym (ap (option_map (λ (r : RowState). r.rows)) (told-row rows id)) ∙ h)
+all-named rows are listed id history h not_root = by (at_place rows id) refl (sym (ap (option_map (λ (r : RowState). r.rows)) (slot-told rows id)) ∙ h)
   where
     some_names : (row : Row) → at_place rows id ≡ Some row → (n : ℕ) → row.names ≡ n → 0 < n
     some_names row there zero is = absurd (let nowhere = listed id row there not_root is in let lt = nowhere.1 in omega (arith, lt))

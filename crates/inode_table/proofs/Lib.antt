@@ -1,3 +1,5 @@
+pub mod Ahead
+pub mod Altering
 pub mod BlocksOnce
 pub mod Bytes
 pub mod Calling
@@ -15,6 +17,7 @@ pub mod Lessening
 pub mod Listing
 pub mod Marked
 pub mod Marking
+pub mod Mending
 pub mod Naming
 pub mod Noting
 pub mod Numbers

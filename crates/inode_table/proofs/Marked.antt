@@ -10,11 +10,11 @@ use Rattle.hs_plain.specs.declared.state.Member.{Member}
 use Rattle.hs_plain.specs.Tree.{node_at}
 use Rattle.hs_plain.proofs.ValidShapes.{by_last, same_some}
 use Rattle.inode_table.specs.Reads.{Nodes, IsNodes, Has, Child, child, id_of}
-use Rattle.inode_table.specs.Marks.{Mark, Marks, InCopy, AreMarks, Arrives, Copies}
+use Rattle.inode_table.specs.Marks.{Mark, RowMarks, InCopy, AreMarks, Arrives, Copies}
 use Rattle.inode_table.proofs.Reading.{by_id, last_two}
 
 module _ {B : Type 0} where
-  pub marks-arrive : (before after : Nodes B) (members : List (Member B)) (old new : Marks) (issued : ℕ) (x : InodeId) (carry : ℕ)
+  pub marks-arrive : (before after : Nodes B) (members : List (Member B)) (old new : RowMarks) (issued : ℕ) (x : InodeId) (carry : ℕ)
       → Arrives before after members old new issued x carry → AreMarks before members old issued → AreMarks after members new issued
   marks-arrive before after members old new issued x carry step are = record {
     down = λ p y m c is_live lt copied own. by_id y x
@@ -38,7 +38,7 @@ module _ {B : Type 0} where
       too_late : (m : Member B) → Contains members m → (new x).since < m.snapshot.0 → ⊥
       too_late m is_live lt = let is : (new x).since ≡ issued = ap (λ (k : Mark). k.since) step.here in let le = step.ids_issued m is_live in omega arith
 
-  pub marks-fewer : (before after : Nodes B) (members fewer : List (Member B)) (marks : Marks) (issued : ℕ)
+  pub marks-fewer : (before after : Nodes B) (members fewer : List (Member B)) (marks : RowMarks) (issued : ℕ)
       → ((p y : InodeId) → Child after p y → Child before p y) → ((y : InodeId) → Has after y → Has before y) → ((m : Member B) → Contains fewer m → Contains members m)
       → AreMarks before members marks issued → AreMarks after fewer marks issued
   marks-fewer before after members fewer marks issued kid has live are = record {
@@ -85,7 +85,7 @@ module _ {B : Type 0} where
         there : node_at s.tree (child copied.at c.name) ≡ Some c.node
         there = copies.copy (child copied.at c.name) ∙ ap live (sym (append_assoc path copied.at (c.name ∷ []))) ∙ ap (λ (r : Names). live (child r c.name)) one ∙ c.is
 
-  pub marks-snap : (live : Nodes B) (members : List (Member B)) (marks : Marks) (issued : ℕ) (path : Names) (s : Member B)
+  pub marks-snap : (live : Nodes B) (members : List (Member B)) (marks : RowMarks) (issued : ℕ) (path : Names) (s : Member B)
       → Copies live path s → s.snapshot.0 ≡ issued + 1 → IsNodes live → AreMarks live members marks issued → AreMarks live (members ++ s ∷ []) marks (issued + 1)
   marks-snap live members marks issued path s copies number is are = record {
     down = λ p x m c is_live lt copied own. by_member members s m is_live

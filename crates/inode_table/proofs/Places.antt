@@ -1,33 +1,22 @@
 -- Rows at their places: one place written, and what the table is then.
-use Rattle.std.proofs.Common.{◌≡◌, ℕ, zero, suc, ◌+◌, ◌-◌, ◌<◌, ◌≤◌, Bool, true, false, cond, nat_eq, List, [], ◌∷◌, ◌++◌, Option, Some, None, slice_get, set, length, vec_len, refl, sym, ap, subst, ◌∙◌, arith}
-use Rattle.std.specs.Prelude.{not, nat_lt}
+use Rattle.std.proofs.Common.{◌≡◌, ℕ, zero, suc, ◌+◌, ◌-◌, ◌<◌, ◌≤◌, true, false, cond, nat_eq, List, [], ◌∷◌, Option, Some, None, slice_get, set, length, refl, sym, ap, subst, ◌∙◌, arith}
+use Rattle.std.specs.Prelude.{nat_lt}
 use Rattle.std.specs.Option.{option_map}
 use Rattle.std.proofs.lemmas.Bool.Decides.{nat_tests}
 use Rattle.hs_types.specs.declared.ids.InodeId.{InodeId}
 use Rattle.hs_types.specs.declared.ids.SnapId.{SnapId}
-use Rattle.hs_plain.specs.Tree.{same_inode}
-use Rattle.hs_plain.proofs.ValidShapes.{none_some, same_some}
-use Rattle.dir_changes.specs.Counts.{times, one_where}
+use Rattle.dir_changes.specs.Counts.{one_where}
 use Rattle.inode_table.specs.declared.row.Row.{Row}
 use Rattle.inode_table.specs.RowHistory.{Table}
-use Rattle.inode_table.specs.Names.{named_in, times_named}
-use Rattle.inode_table.specs.Numbered.{numbered, history_of, table_of, at_place, flat, with_marks}
+use Rattle.inode_table.specs.Numbered.{at_place, flat, with_marks}
 use Rattle.inode_table.specs.Tabled.{named_less}
 use Rattle.inode_table.specs.Totals.{total}
 use Rattle.inode_table.specs.RowHistory.{RowState}
 use Rattle.inode_table.specs.Numbered.{state_of}
 use Rattle.inode_table.specs.Released.{all_named_less, without_row}
 use Rattle.inode_table.specs.Slots.{Slots, table_in, is_named, named_rows}
-use Rattle.inode_table.specs.Lessened.{lessened, lessen_at, lessen_all, is_last, ended_at, ended}
-
-abbrev from : ℕ → Slots → Table
-from n rows = table_of (numbered n rows)
-
-is_here : (id : InodeId) (n : ℕ) → id.0 ≡ n → same_inode (record { 0 = n }) id ≡ true
-is_here id n same = grind (arith, nat_tests, same)
-
-is_there : (id : InodeId) (n : ℕ) → (id.0 ≡ n → ⊥) → same_inode (record { 0 = n }) id ≡ false
-is_there id n apart = grind (arith, nat_tests, apart)
+use Rattle.inode_table.specs.Lessened.{lessened, lessen_at, lessen_all, is_last, ended_at}
+use Rattle.inode_table.proofs.Placing.{from, is_here, is_there, table-recounted, total-recounted}
 
 -- ---- a place is emptied
 
@@ -48,20 +37,8 @@ table-emptied rows id = emptied id 0 rows id.0 (omega arith)
 
 -- ---- a row is named once less
 
-unmoved : (id : InodeId) (n : ℕ) (rows : Slots) → id.0 < n → named_less id (from n rows) ≡ from n rows
-unmoved id n [] lt = refl
-unmoved id n (None ∷ rows) lt = unmoved id (suc n) rows (omega (arith, lt))
-unmoved id n (Some row ∷ rows) lt = rw (is_there id n (λ same. omega (arith, lt, same))) (ap (λ (t : Table). (record { 0 = n }, state_of row) ∷ t) (unmoved id (suc n) rows (omega (arith, lt))))
-
-less_from : (id : InodeId) (n : ℕ) (rows : Slots) (i : ℕ) → id.0 ≡ n + i → from n (set rows i (option_map lessened (flat (slice_get rows i)))) ≡ named_less id (from n rows)
-less_from id n [] i is = refl
-less_from id n (None ∷ rows) zero is = sym (unmoved id (suc n) rows (omega (arith, is)))
-less_from id n (None ∷ rows) (suc i) is = less_from id (suc n) rows i (omega (arith, is))
-less_from id n (Some row ∷ rows) zero is = rw (is_here id n (omega (arith, is))) (ap (λ (t : Table). (record { 0 = n }, state_of (lessened row)) ∷ t) (sym (unmoved id (suc n) rows (omega (arith, is)))))
-less_from id n (Some row ∷ rows) (suc i) is = rw (is_there id n (λ same. omega (arith, is, same))) (ap (λ (t : Table). (record { 0 = n }, state_of row) ∷ t) (less_from id (suc n) rows i (omega (arith, is))))
-
 pub table-less : (id : InodeId) (rows : Slots) → table_in (lessen_at id rows) ≡ named_less id (table_in rows)
-table-less id rows = less_from id 0 rows id.0 (omega arith)
+table-less id rows = table-recounted (λ n. n - 1) rows id
 
 pub table-all-less : (ids : List InodeId) (rows : Slots) → table_in (lessen_all ids rows) ≡ all_named_less ids (table_in rows)
 table-all-less [] rows = refl
@@ -88,15 +65,8 @@ pub total-written : (weight : RowState → ℕ) (rows : Slots) (i : ℕ) (new : 
 total-written weight rows i new lt = written weight 0 rows i new lt
 
 -- what doesn't look at names stays as a row is named less
-less_total : (weight : RowState → ℕ) → ((r : RowState) (n : ℕ) → weight (record r { names = n }) ≡ weight r) → (n : ℕ) (rows : Slots) (i : ℕ) → total weight (from n (set rows i (option_map lessened (flat (slice_get rows i))))) ≡ total weight (from n rows)
-less_total weight blind n [] i = refl
-less_total weight blind n (None ∷ rows) zero = refl
-less_total weight blind n (Some row ∷ rows) zero = ap (λ w. w + total weight (from (suc n) rows)) (blind (state_of row) (row.names - 1))
-less_total weight blind n (None ∷ rows) (suc i) = less_total weight blind (suc n) rows i
-less_total weight blind n (Some row ∷ rows) (suc i) = ap (λ w. weight (state_of row) + w) (less_total weight blind (suc n) rows i)
-
 pub total-less : (weight : RowState → ℕ) → ((r : RowState) (n : ℕ) → weight (record r { names = n }) ≡ weight r) → (id : InodeId) (rows : Slots) → total weight (table_in (lessen_at id rows)) ≡ total weight (table_in rows)
-total-less weight blind id rows = less_total weight blind 0 rows id.0
+total-less weight blind id rows = ap (total weight) (table-less id rows) ∙ total-recounted (λ n. n - 1) weight blind id (table_in rows)
 
 -- ---- how many rows are named
 

@@ -1,5 +1,5 @@
 -- Rows at their places: one written, one put behind all, one named otherwise; and sums over them.
-use Rattle.std.proofs.Common.{◌≡◌, ℕ, zero, suc, ◌+◌, ◌<◌, ◌≤◌, Bool, true, false, cond, List, [], ◌∷◌, ◌++◌, Option, Some, None, slice_get, get_or, set, map, length, refl, sym, ap, subst, ◌∙◌, arith}
+use Rattle.std.proofs.Common.{◌≡◌, ℕ, zero, suc, ◌+◌, ◌<◌, ◌≤◌, true, false, cond, List, [], ◌∷◌, ◌++◌, Option, Some, None, slice_get, get_or, set, map, length, refl, sym, ap, ◌∙◌, arith}
 use Rattle.std.specs.Prelude.{◌≢◌, IsSome}
 use Rattle.std.specs.Option.{option_map}
 use Rattle.std.specs.Ordering.{eq_by_cmp, is_eq}
@@ -20,7 +20,7 @@ use Rattle.inode_table.proofs.Numbers.{found}
 use Rattle.inode_table.proofs.Telling.{row-told}
 use Rattle.inode_table.proofs.Naming.{put-total}
 
-abbrev from : ℕ → Slots → Table
+abbrev pub from : ℕ → Slots → Table
 from n rows = table_of (numbered n rows)
 
 is_less : (id : InodeId) (n : ℕ) → id.0 < n → id_order id (record { 0 = n }) ≡ Less
@@ -32,10 +32,10 @@ is_equal id n same = grind (arith, nat_tests, same)
 is_greater : (id : InodeId) (n : ℕ) → n < id.0 → id_order id (record { 0 = n }) ≡ Greater
 is_greater id n lt = grind (arith, nat_tests, lt)
 
-is_here : (id : InodeId) (n : ℕ) → id.0 ≡ n → same_inode (record { 0 = n }) id ≡ true
+pub is_here : (id : InodeId) (n : ℕ) → id.0 ≡ n → same_inode (record { 0 = n }) id ≡ true
 is_here id n same = grind (arith, nat_tests, same)
 
-is_there : (id : InodeId) (n : ℕ) → (id.0 ≡ n → ⊥) → same_inode (record { 0 = n }) id ≡ false
+pub is_there : (id : InodeId) (n : ℕ) → (id.0 ≡ n → ⊥) → same_inode (record { 0 = n }) id ≡ false
 is_there id n apart = grind (arith, nat_tests, apart)
 
 -- ---- order
@@ -90,23 +90,20 @@ table-behind rows id row is = put_behind id 0 rows row (omega (arith, is))
 -- ---- a row is named otherwise
 
 module _ (f : ℕ → ℕ) where
-  abbrev named_by : Row → Row
-  named_by row = with_names f row
-
   unmoved : (id : InodeId) (n : ℕ) (rows : Slots) → id.0 < n → map (recounted_row f id) (from n rows) ≡ from n rows
   unmoved id n [] lt = refl
   unmoved id n (None ∷ rows) lt = unmoved id (suc n) rows (omega (arith, lt))
   unmoved id n (Some row ∷ rows) lt = rw (is_there id n (λ same. omega (arith, lt, same))) (ap (λ (t : Table). (record { 0 = n }, state_of row) ∷ t) (unmoved id (suc n) rows (omega (arith, lt))))
 
-  renamed : (id : InodeId) (n : ℕ) (rows : Slots) (i : ℕ) (row : Row) → id.0 ≡ n + i → slice_get rows i ≡ Some (Some row) → from n (set rows i (Some (named_by row))) ≡ map (recounted_row f id) (from n rows)
-  renamed id n [] i row is h = absurd (none_some h)
-  renamed id n (None ∷ rows) zero row is h = absurd (none_some (same_some h))
-  renamed id n (None ∷ rows) (suc i) row is h = renamed id (suc n) rows i row (omega (arith, is)) h
-  renamed id n (Some old ∷ rows) zero row is h = rw (is_here id n (omega (arith, is))) (let same : old ≡ row = same_some (same_some h) in rw same (ap (λ (t : Table). (record { 0 = n }, state_of (named_by row)) ∷ t) (sym (unmoved id (suc n) rows (omega (arith, is))))))
-  renamed id n (Some old ∷ rows) (suc i) row is h = rw (is_there id n (λ same. omega (arith, is, same))) (ap (λ (t : Table). (record { 0 = n }, state_of old) ∷ t) (renamed id (suc n) rows i row (omega (arith, is)) h))
+  recounted_from : (id : InodeId) (n : ℕ) (rows : Slots) (i : ℕ) → id.0 ≡ n + i → from n (set rows i (option_map (with_names f) (flat (slice_get rows i)))) ≡ map (recounted_row f id) (from n rows)
+  recounted_from id n [] i is = refl
+  recounted_from id n (None ∷ rows) zero is = sym (unmoved id (suc n) rows (omega (arith, is)))
+  recounted_from id n (None ∷ rows) (suc i) is = recounted_from id (suc n) rows i (omega (arith, is))
+  recounted_from id n (Some row ∷ rows) zero is = rw (is_here id n (omega (arith, is))) (ap (λ (t : Table). (record { 0 = n }, state_of (with_names f row)) ∷ t) (sym (unmoved id (suc n) rows (omega (arith, is)))))
+  recounted_from id n (Some row ∷ rows) (suc i) is = rw (is_there id n (λ same. omega (arith, is, same))) (ap (λ (t : Table). (record { 0 = n }, state_of row) ∷ t) (recounted_from id (suc n) rows i (omega (arith, is))))
 
-  pub table-recounted : (rows : Slots) (id : InodeId) (row : Row) → slice_get rows id.0 ≡ Some (Some row) → table_in (set rows id.0 (Some (with_names f row))) ≡ map (recounted_row f id) (table_in rows)
-  table-recounted rows id row h = renamed id 0 rows id.0 row (omega arith) h
+  pub table-recounted : (rows : Slots) (id : InodeId) → table_in (set rows id.0 (option_map (with_names f) (at_place rows id))) ≡ map (recounted_row f id) (table_in rows)
+  table-recounted rows id = recounted_from id 0 rows id.0 (omega arith)
 
   -- sums that don't look at names
   pub total-recounted : (weight : RowState → ℕ) → ((row : RowState) (n : ℕ) → weight (record row { names = n }) ≡ weight row) → (id : InodeId) (table : Table) → total weight (map (recounted_row f id) table) ≡ total weight table
@@ -186,22 +183,17 @@ pub place-set-there : (rows : Slots) (id other : InodeId) (v : Option Row) → o
 place-set-there rows id other v apart = ap flat (get_set_there rows id.0 other.0 v (λ e. apart (ap (λ (n : ℕ). record { 0 = n }) e)))
 
 -- another row with the same states changes nothing in the plain table
-same_from : (n : ℕ) (rows : Slots) (i : ℕ) (old new : Row) → slice_get rows i ≡ Some (Some old) → state_of new ≡ state_of old → from n (set rows i (Some new)) ≡ from n rows
-same_from n [] i old new h e = absurd (none_some h)
-same_from n (None ∷ rows) zero old new h e = absurd (none_some (same_some h))
-same_from n (None ∷ rows) (suc i) old new h e = same_from (suc n) rows i old new h e
-same_from n (Some r ∷ rows) zero old new h e = ap (λ (s : RowState). (record { 0 = n }, s) ∷ from (suc n) rows) (e ∙ ap state_of (sym (same_some (same_some h))))
-same_from n (Some r ∷ rows) (suc i) old new h e = ap (λ (t : Table). (record { 0 = n }, state_of r) ∷ t) (same_from (suc n) rows i old new h e)
+same_from : (n : ℕ) (rows : Slots) (i : ℕ) (new : Option Row) → i < length rows → option_map state_of new ≡ option_map state_of (flat (slice_get rows i)) → from n (set rows i new) ≡ from n rows
+same_from n [] i new lt e = absurd (omega arith)
+same_from n (None ∷ rows) zero None lt e = refl
+same_from n (None ∷ rows) zero (Some r) lt e = absurd (none_some (sym e))
+same_from n (Some row ∷ rows) zero None lt e = absurd (none_some e)
+same_from n (Some row ∷ rows) zero (Some r) lt e = ap (λ (s : RowState). (record { 0 = n }, s) ∷ from (suc n) rows) (same_some e)
+same_from n (None ∷ rows) (suc i) new lt e = same_from (suc n) rows i new (omega arith) e
+same_from n (Some row ∷ rows) (suc i) new lt e = ap (λ (t : Table). (record { 0 = n }, state_of row) ∷ t) (same_from (suc n) rows i new (omega arith) e)
 
-pub slot_there : (rows : Slots) (id : InodeId) (row : Row) → at_place rows id ≡ Some row → slice_get rows id.0 ≡ Some (Some row)
-slot_there rows id row h = by (slice_get rows id.0) refl h
-  where
-    by : (o : Option (Option Row)) → slice_get rows id.0 ≡ o → flat o ≡ Some row → slice_get rows id.0 ≡ Some (Some row)
-    by None e g = absurd (none_some g)
-    by (Some slot) e g = e ∙ ap (λ (s : Option Row). Some s) g
-
-pub table-same : (rows : Slots) (id : InodeId) (old new : Row) → at_place rows id ≡ Some old → state_of new ≡ state_of old → table_in (set rows id.0 (Some new)) ≡ table_in rows
-table-same rows id old new h e = same_from 0 rows id.0 old new (slot_there rows id old h) e
+pub table-same : (rows : Slots) (id : InodeId) (new : Option Row) → id.0 < length rows → option_map state_of new ≡ option_map state_of (at_place rows id) → table_in (set rows id.0 new) ≡ table_in rows
+table-same rows id new lt e = same_from 0 rows id.0 new lt e
 
 -- ---- what is read of places
 

@@ -16,7 +16,7 @@ use Rattle.hs_plain.proofs.ValidShapes.{by_under, none_some, same_some, not_last
 use Rattle.std.proofs.lemmas.List.{append_cancel_left}
 use Rattle.dir_changes.specs.Entries.{with_entry, without_name}
 use Rattle.inode_table.specs.Reads.{Nodes, ReadsAs, IsNodes, Has, Child, child, id_of}
-use Rattle.inode_table.specs.Marks.{Mark, Marks, InCopy, AreMarks, IsChain, Leads, last_of, marked, cover, cover_from}
+use Rattle.inode_table.specs.Marks.{Mark, RowMarks, InCopy, AreMarks, IsChain, Leads, last_of, marked, cover, cover_from}
 use Rattle.inode_table.specs.RowHistory.{Table, RowHistory, rows_at, shown, marks_of, node_in, spot_in, entries_of, last_in, need, IsFrozen, IsSafe}
 use Rattle.inode_table.specs.Calls.{MayMove}
 use Rattle.inode_table.specs.Stands.{Stands, TableRenames, root_id}
@@ -29,7 +29,7 @@ use Rattle.inode_table.proofs.Calling.{reads-renamed}
 
 -- ---- a cover is no more than what was issued
 
-module _ {B : Type 0} (live : Nodes B) (members : List (Member B)) (marks : Marks) (issued : ℕ) (are : AreMarks live members marks issued) (ids : (m : Member B) → Contains members m → m.snapshot.0 ≤ issued) where
+module _ {B : Type 0} (live : Nodes B) (members : List (Member B)) (marks : RowMarks) (issued : ℕ) (are : AreMarks live members marks issued) (ids : (m : Member B) → Contains members m → m.snapshot.0 ≤ issued) where
   last_of-within : (ms : List (Member B)) (id : InodeId) → ((m : Member B) → Contains ms m → m.snapshot.0 ≤ issued) → last_of ms id ≤ issued
   last_of-within [] id all = omega arith
   last_of-within (m ∷ ms) id all =

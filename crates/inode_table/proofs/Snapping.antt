@@ -18,7 +18,7 @@ use Rattle.file_changes.proofs.Reading.{first, second, less, le_no}
 use Rattle.dir_changes.specs.History as dirs
 use Rattle.dir_changes.proofs.ReadLaws.{children_at-past, marks_at-past}
 use Rattle.inode_table.specs.Reads.{Nodes, ReadsAs, IsNodes, Has, id_of}
-use Rattle.inode_table.specs.Marks.{Mark, Marks, InCopy, AreMarks, Copies}
+use Rattle.inode_table.specs.Marks.{Mark, RowMarks, InCopy, AreMarks, Copies}
 use Rattle.inode_table.specs.RowHistory.{RowHistory, File, Dir, Table, rows_at, shown, marks_of, node_in, entries_in, spot_in, entries_of, last_in, file_node, dir_node, ReadsAlike}
 use Rattle.inode_table.specs.Stands.{Stands, root_id}
 use Rattle.inode_table.specs.Snaps.{Rising, NumbersWithin, with_member, Drops}
@@ -98,7 +98,7 @@ drop-stands before after state issued fewer step left stands = record {
   live = alike_rows before after 0 0 root_id (node_at state.tree) stands.live (λ id old h was. let new = step.row id old was in (new.0, new.1, new.2.node, new.2.entries, new.2.spot));
   frozen = λ m is_live. alike_rows before after m.snapshot.0 m.snapshot.0 m.directory (node_at m.tree) (stands.frozen m (left m is_live))
       (λ id old h was. let new = step.row id old was in let same = new.3 m is_live in (new.0, new.1, same.node, same.entries, same.spot));
-  marks = subst (λ (k : Marks). AreMarks (node_at state.tree) fewer k issued) (λ i id. sym (step.marks id) i)
+  marks = subst (λ (k : RowMarks). AreMarks (node_at state.tree) fewer k issued) (λ i id. sym (step.marks id) i)
       (marks-fewer (node_at state.tree) (node_at state.tree) state.members fewer (marks_of before) issued (λ p y c. c) (λ y h. h) left stands.marks);
   top = record {
     own = λ m is_live. stands.top.own m (left m is_live);

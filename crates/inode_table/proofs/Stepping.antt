@@ -1,5 +1,5 @@
 -- One row's change: what its lists name, and what it weighs.
-use Rattle.std.proofs.Common.{◌≡◌, ℕ, zero, suc, ◌+◌, ◌<◌, ◌≤◌, Bool, true, false, cond, nat_lt, List, [], ◌∷◌, ◌++◌, Option, Some, None, length, length-append, refl, sym, ap, subst, ◌∙◌, arith}
+use Rattle.std.proofs.Common.{◌≡◌, ℕ, ◌+◌, ◌≤◌, Bool, true, false, cond, nat_lt, List, [], ◌∷◌, ◌++◌, Option, Some, length, length-append, refl, sym, ap, subst, ◌∙◌, arith}
 use Rattle.std.proofs.lemmas.Bool.Decides.{nat_tests}
 use Rattle.hs_types.specs.declared.ids.InodeId.{InodeId}
 use Rattle.file_changes.specs.History as files
@@ -114,12 +114,12 @@ changed-named cover tick what (Dir dir) sound fits x =
     let edit = edit-named tick what (begun cover dir) b.sound (fits_begun what dir (begun cover dir) b.children fits) x in
     let same = b.named x in omega (arith, edit, same)
 
-edit_file_records : (tick : ℕ) (what : Change) (file : FileHistory) → (edited_file tick what file).records ≡ file.records
-edit_file_records tick (changes.Mode mode) file = refl
-edit_file_records tick (changes.Body size blocks) file = refl
-edit_file_records tick (changes.Add name id) file = refl
-edit_file_records tick (changes.Remove name) file = refl
-edit_file_records tick (changes.Move spot) file = refl
+pub edit-file-records : (tick : ℕ) (what : Change) (file : FileHistory) → (edited_file tick what file).records ≡ file.records
+edit-file-records tick (changes.Mode mode) file = refl
+edit-file-records tick (changes.Body size blocks) file = refl
+edit-file-records tick (changes.Add name id) file = refl
+edit-file-records tick (changes.Remove name) file = refl
+edit-file-records tick (changes.Move spot) file = refl
 
 begun_file_records : (cover : ℕ) (file : FileHistory) → length (begun_file cover file).records ≤ length file.records + 1
 begun_file_records cover file = elim (nat_lt (files.last_number file) cover) as (λ b. length (cond b (files.saved (record { 0 = cover }) file) file).records ≤ length file.records + 1) [
@@ -130,7 +130,7 @@ begun_file_records cover file = elim (nat_lt (files.last_number file) cover) as 
 pub changed-weight : (cover tick : ℕ) (what : Change) (rows : RowHistory) → AreSound rows → FitsRows what rows
     → records_in (changed_rows cover tick what rows) + entries_of (changed_rows cover tick what rows) ≤ records_in rows + entries_of rows + 3
 changed-weight cover tick what (File file) sound fits =
-    let same = ap length (edit_file_records tick what (begun_file cover file)) in let more = begun_file_records cover file in omega (arith, same, more)
+    let same = ap length (edit-file-records tick what (begun_file cover file)) in let more = begun_file_records cover file in omega (arith, same, more)
 changed-weight cover tick what (Dir dir) sound fits =
     let b = begin cover dir sound in
     let edit = edit-weight tick what (begun cover dir) b.sound (fits_begun what dir (begun cover dir) b.children fits) in

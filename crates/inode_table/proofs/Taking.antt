@@ -1,6 +1,6 @@
 -- A record of the row at a place is taken away.
-use Rattle.std.proofs.Common.{◌≡◌, ℕ, zero, suc, ◌+◌, ◌-◌, ◌<◌, ◌≤◌, List, [], ◌∷◌, ◌++◌, Option, Some, None, slice_get, set, get_or, length, Result, Ok, Err, refl, sym, ap, subst, ◌∙◌, length-append, length-set, cond, true, false, arith}
-use Rattle.std.specs.Prelude.{◌≢◌, nat_lt, OnOk}
+use Rattle.std.proofs.Common.{◌≡◌, ℕ, zero, suc, ◌+◌, ◌<◌, ◌≤◌, Bool, List, [], ◌∷◌, ◌++◌, Option, Some, None, slice_get, set, get_or, length, Result, Ok, Err, refl, sym, ap, subst, ◌∙◌, length-append, length-set, cond, true, false, inl, inr, ⊎_elim, arith}
+use Rattle.std.specs.Prelude.{nat_lt, OnOk, IsSome}
 use Rattle.std.specs.Option.{option_map}
 use Rattle.std.specs.FinMap.Entries.{put}
 use Rattle.hs_types.specs.declared.ids.BlockId.{BlockId}
@@ -8,31 +8,27 @@ use Rattle.hs_types.specs.declared.ids.InodeId.{InodeId}
 use Rattle.hs_plain.proofs.ValidShapes.{none_some, same_some}
 use Rattle.dir_changes.specs.Counts.{times, one_where}
 use Rattle.inode_table.specs.declared.row.Row.{Row}
+use Rattle.inode_table.specs.declared.row.Rows.{Rows}
 use Rattle.inode_table.specs.declared.merging.Dropped.{Dropped}
 use Rattle.inode_table.specs.RowHistory.{RowHistory, RowState, File, Dir, Table, id_order, row_at}
-use Rattle.inode_table.specs.Stands.{root_id}
 use Rattle.inode_table.specs.Names.{named_in, times_named}
-use Rattle.inode_table.specs.Numbered.{numbered, table_of, history_of, state_of, at_place, flat}
+use Rattle.inode_table.specs.Numbered.{numbered, table_of, history_of, state_of, row_of, at_place, flat}
 use Rattle.inode_table.specs.Indexed.{Index}
 use Rattle.inode_table.specs.Kept.{rows_in}
 use Rattle.inode_table.specs.Totals.{total, block_count, blocks_named, weight}
-use Rattle.inode_table.specs.Tabled.{Tabled}
 use Rattle.inode_table.specs.Released.{all_named_less}
-use Rattle.inode_table.specs.Merged.{merged_rows, ids_dropped, blocks_dropped, merged_from, merged, KeepsRow}
-use Rattle.inode_table.specs.Dropping.{Drops, DropsRow, DropsAt, Leaves}
+use Rattle.inode_table.specs.Merged.{merged_rows, ids_dropped, blocks_dropped, merged_from, merged, KeepsRow, LeavesRows, LeavesRow}
+use Rattle.inode_table.specs.Prepared.{IsPreparedRow}
+use Rattle.inode_table.specs.Dropping.{DropsRow, DropsAt, Leaves}
 use Rattle.inode_table.specs.Slots.{Slots, table_in, is_named, named_rows, AreCounted, AreListed}
-use Rattle.inode_table.specs.Lessened.{lessened, lessen_at, lessen_all, is_last, ended_at, ended, told_in}
+use Rattle.inode_table.specs.Lessened.{lessened, lessen_at, lessen_all, is_last, ended_at, ended, StaysOrGoes, told_in}
+use Rattle.inode_table.proofs.Numbers.{found}
 use Rattle.inode_table.proofs.Reading.{by_id}
 use Rattle.inode_table.proofs.Places.{weight_at, total-written, table-all-less}
-use Rattle.inode_table.proofs.Placing.{table-put}
-use Rattle.inode_table.proofs.Lessening.{at_other, at_less, place-within, only-few, one_weight, weight_is, told-row}
+use Rattle.inode_table.proofs.Placing.{table-put, place-set-here, place-set-there, place-within, slot-told, told_slot}
+use Rattle.inode_table.proofs.Lessening.{at_less, at_emptied, only-few, one_weight, weight_is}
 
 -- ---- a written place
-
-at_written_from : (rows : Slots) (i : ℕ) (v : Option Row) → i < length rows → flat (slice_get (set rows i v) i) ≡ v
-at_written_from [] i v lt = absurd (omega arith)
-at_written_from (slot ∷ rows) zero v lt = refl
-at_written_from (slot ∷ rows) (suc i) v lt = at_written_from rows i v (omega arith)
 
 named_written_from : (rows : Slots) (i : ℕ) (v : Option Row) → i < length rows → named_rows (set rows i v) + is_named (flat (slice_get rows i)) ≡ named_rows rows + is_named v
 named_written_from [] i v lt = absurd (omega arith)
@@ -54,7 +50,7 @@ module _ (rows : Slots) (id : InodeId) (i : ℕ) (old new : Row) (dropped : Drop
   within = place-within rows id old there
 
   here : at_place (set rows id.0 (Some new)) id ≡ Some new
-  here = at_written_from rows id.0 (Some new) within
+  here = place-set-here rows id (Some new) within
 
   names_same : new.names ≡ old.names
   names_same = ap (λ (r : Row). r.names) d.kept
@@ -72,17 +68,17 @@ module _ (rows : Slots) (id : InodeId) (i : ℕ) (old new : Row) (dropped : Drop
         let count = are.counted x old (ap (at_place rows) e ∙ there) in let names = names_same in
         let named : r.names ≡ new.names = ap (λ (q : Row). q.names) is_new in
         omega (arith, count, sum, names, named))
-        (λ ne. let count = are.counted x r (sym (at_other rows id x (Some new) ne) ∙ h) in omega (arith, count, sum));
+        (λ ne. let count = are.counted x r (sym (place-set-there rows id x (Some new) ne) ∙ h) in omega (arith, count, sum));
     there = λ x some. let sum = names_sum x in let was = are.there x (omega (arith, some, sum)) in by_id x id
         (λ e. (new, ap (at_place (set rows id.0 (Some new))) e ∙ here))
-        (λ ne. (was.0, at_other rows id x (Some new) ne ∙ was.1));
+        (λ ne. (was.0, place-set-there rows id x (Some new) ne ∙ was.1));
   }
 
   listed_dropped : (unnamed : List InodeId) → AreListed rows unnamed → AreListed (set rows id.0 (Some new)) unnamed
   listed_dropped unnamed are x r h not_root none = by_id x id
       (λ e. let is_new : r ≡ new = same_some (sym h ∙ ap (at_place (set rows id.0 (Some new))) e ∙ here) in
       are x old (ap (at_place rows) e ∙ there) not_root (sym names_same ∙ ap (λ (q : Row). q.names) (sym is_new) ∙ none))
-      (λ ne. are x r (sym (at_other rows id x (Some new) ne) ∙ h) not_root none)
+      (λ ne. are x r (sym (place-set-there rows id x (Some new) ne) ∙ h) not_root none)
 
   named_dropped : named_rows (set rows id.0 (Some new)) ≡ named_rows rows
   named_dropped =
@@ -115,7 +111,7 @@ module _ (rows : Slots) (id : InodeId) (i : ℕ) (old new : Row) (dropped : Drop
     lighter = weight_left;
     len = length-set rows id.0 (Some new);
     told = told_left;
-    there = λ other ne. at_other rows id other (Some new) ne;
+    there = λ other ne. place-set-there rows id other (Some new) ne;
     ids = d.rows.ids;
     waits = d.rows.blocks;
   }
@@ -130,7 +126,7 @@ leaves rows after id i old dropped there d is =
 rows_less : (id x : InodeId) (rows : Slots) → rows_in (at_place (lessen_at id rows) x) ≡ rows_in (at_place rows x)
 rows_less id x rows = by_id x id
     (λ e. ap (λ (j : InodeId). rows_in (at_place (lessen_at id rows) j)) e ∙ ap rows_in (at_less rows id) ∙ blind (at_place rows id) ∙ ap (λ (j : InodeId). rows_in (at_place rows j)) (sym e))
-    (λ ne. ap rows_in (at_other rows id x (option_map lessened (at_place rows id)) ne))
+    (λ ne. ap rows_in (place-set-there rows id x (option_map lessened (at_place rows id)) ne))
   where
     blind : (o : Option Row) → rows_in (option_map lessened o) ≡ rows_in o
     blind None = refl
@@ -139,6 +135,32 @@ rows_less id x rows = by_id x id
 pub rows-all-less : (ids : List InodeId) (x : InodeId) (rows : Slots) → rows_in (at_place (lessen_all ids rows) x) ≡ rows_in (at_place rows x)
 rows-all-less [] x rows = refl
 rows-all-less (id ∷ ids) x rows = rows-all-less ids x (lessen_at id rows) ∙ rows_less id x rows
+
+-- a row goes, and others are named less
+pub stays-gone : (old rows : Slots) (id : InodeId) (ids : List InodeId) → StaysOrGoes old rows → StaysOrGoes old (lessen_all ids (set rows id.0 None))
+stays-gone old rows id ids stays x = by_id x id
+    (λ e. inl (rows-all-less ids x (set rows id.0 None) ∙ ap rows_in (ap (at_place (set rows id.0 None)) e ∙ at_emptied rows id)))
+    (λ ne. let same : rows_in (at_place (lessen_all ids (set rows id.0 None)) x) ≡ rows_in (at_place rows x) = rows-all-less ids x (set rows id.0 None) ∙ ap rows_in (place-set-there rows id x None ne) in
+    ⊎_elim (λ none. inl (same ∙ none)) (λ as_before. inr (same ∙ as_before)) (stays x))
+
+pub stays-all : (rows : Slots) → StaysOrGoes rows rows
+stays-all rows x = inr refl
+
+-- the row that loses a record, where others are named less
+pub leaves-row : (rows after : Slots) (id : InodeId) (i : ℕ) (old : Row) (dropped : Dropped) (ids : List InodeId) → at_place rows id ≡ Some old → DropsAt i (at_place rows id) (at_place after id) dropped → LeavesRow (rows_in (at_place rows id)) (rows_in (at_place (lessen_all ids after) id))
+leaves-row rows after id i old dropped ids there d =
+    let new = drops-row i (at_place rows id) (at_place after id) dropped old d there in
+    subst (λ (o : Option Rows). LeavesRow o (rows_in (at_place (lessen_all ids after) id))) (sym (ap rows_in there))
+    (subst (LeavesRow (Some old.rows)) (sym (rows-all-less ids id after ∙ ap rows_in new.1)) new.2.rows.room)
+
+-- rows that are there after stay as they were
+pub stays-found : (old new : Slots) (id : InodeId) → StaysOrGoes old new → IsSome (row_of (numbered 0 new) id) → rows_in (row_of (numbered 0 new) id) ≡ rows_in (row_of (numbered 0 old) id)
+stays-found old new id stays some =
+    ⊎_elim (λ none. absurd (no_rows (row_of (numbered 0 new) id) some (ap rows_in (found id new) ∙ none))) (λ same. ap rows_in (found id new) ∙ same ∙ sym (ap rows_in (found id old))) (stays id)
+  where
+    no_rows : (o : Option Row) → IsSome o → rows_in o ≡ None → ⊥
+    no_rows None h e = cc
+    no_rows (Some row) h e = none_some (sym e)
 
 pub ended-few : (ids : List InodeId) (rows : Slots) → length (ended ids rows) ≤ length ids
 ended-few [] rows = omega arith
@@ -155,35 +177,19 @@ merged-told rows after last id i old dropped index g h waiting now there l is_la
     ap (λ (t : Table). record { rows = t; index = index; greatest = h; waiting = now }) told_rows
     ∙ ap (λ (k : ℕ). record { rows = all_named_less (ids_dropped i (history_of old.rows)) (put id_order id (record (state_of old) { rows = merged_rows i (history_of old.rows) }) (table_in rows)); index = index; greatest = k; waiting = now }) is_h
     ∙ ap (λ (w : List BlockId). record { rows = all_named_less (ids_dropped i (history_of old.rows)) (put id_order id (record (state_of old) { rows = merged_rows i (history_of old.rows) }) (table_in rows)); index = index; greatest = g; waiting = w }) (is_now ∙ ap (λ (bs : List BlockId). waiting ++ bs) l.waits)
-    ∙ sym (ap (λ (o : Option RowState). merged_from id i o (told_in rows index g waiting)) (told-row rows id ∙ ap (option_map state_of) there))
+    ∙ sym (ap (λ (o : Option RowState). merged_from id i o (told_in rows index g waiting)) (slot-told rows id ∙ ap (option_map state_of) there))
   where
     told_rows : table_in last ≡ all_named_less (ids_dropped i (history_of old.rows)) (put id_order id (record (state_of old) { rows = merged_rows i (history_of old.rows) }) (table_in rows))
     told_rows = ap table_in is_last_ ∙ table-all-less dropped.ids after ∙ ap (all_named_less dropped.ids) l.told ∙ ap (λ (ids : List InodeId). all_named_less ids (put id_order id (record (state_of old) { rows = merged_rows i (history_of old.rows) }) (table_in rows))) l.ids
 
 -- ---- other rows that stand for the same
 
-same_from : (n : ℕ) (rows : Slots) (i : ℕ) (new : Option Row) → i < length rows → option_map state_of new ≡ option_map state_of (flat (slice_get rows i)) → table_of (numbered n (set rows i new)) ≡ table_of (numbered n rows)
-same_from n [] i new lt e = absurd (omega arith)
-same_from n (None ∷ rows) zero None lt e = refl
-same_from n (None ∷ rows) zero (Some r) lt e = absurd (none_some (sym e))
-same_from n (Some row ∷ rows) zero None lt e = absurd (none_some e)
-same_from n (Some row ∷ rows) zero (Some r) lt e = ap (λ (s : RowState). (record { 0 = n }, s) ∷ table_of (numbered (suc n) rows)) (same_some e)
-same_from n (None ∷ rows) (suc i) new lt e = same_from (suc n) rows i new (omega arith) e
-same_from n (Some row ∷ rows) (suc i) new lt e = ap (λ (t : Table). (record { 0 = n }, state_of row) ∷ t) (same_from (suc n) rows i new (omega arith) e)
-
-pub table-same : (rows : Slots) (i : ℕ) (new : Option Row) → i < length rows → option_map state_of new ≡ option_map state_of (flat (slice_get rows i)) → table_in (set rows i new) ≡ table_in rows
-table-same rows i new lt e = same_from 0 rows i new lt e
-
-row_of_state : (o : Option Row) (s : RowState) → option_map state_of o ≡ Some s → (row : Row) × (o ≡ Some row) × (state_of row ≡ s)
-row_of_state None s h = absurd (none_some h)
-row_of_state (Some row) s h = (row, refl, same_some h)
-
 module _ (old new : Slots) (same : table_in new ≡ table_in old) where
   old_row : (id : InodeId) (row : Row) → at_place new id ≡ Some row → (was : Row) × (at_place old id ≡ Some was) × (state_of was ≡ state_of row)
-  old_row id row h = row_of_state (at_place old id) (state_of row) (sym (told-row old id) ∙ ap (λ (t : Table). row_at t id) (sym same) ∙ told-row new id ∙ ap (option_map state_of) h)
+  old_row id row h = told_slot (at_place old id) (state_of row) (sym (slot-told old id) ∙ ap (λ (t : Table). row_at t id) (sym same) ∙ slot-told new id ∙ ap (option_map state_of) h)
 
   new_row : (id : InodeId) (row : Row) → at_place old id ≡ Some row → (now : Row) × (at_place new id ≡ Some now) × (state_of now ≡ state_of row)
-  new_row id row h = row_of_state (at_place new id) (state_of row) (sym (told-row new id) ∙ ap (λ (t : Table). row_at t id) same ∙ told-row old id ∙ ap (option_map state_of) h)
+  new_row id row h = told_slot (at_place new id) (state_of row) (sym (slot-told new id) ∙ ap (λ (t : Table). row_at t id) same ∙ slot-told old id ∙ ap (option_map state_of) h)
 
   pub counted-same : (ids : List InodeId) → AreCounted old ids → AreCounted new ids
   counted-same ids are = record {
@@ -209,24 +215,17 @@ keeps-itself row = record { changes = λ n cover h. h; merge = λ h. h }
 pub keeps-both : (a b c : Option Row) → KeepsRow a b → KeepsRow b c → KeepsRow a c
 keeps-both a b c h k = record { changes = λ n cover r. k.changes n cover (h.changes n cover r); merge = λ r. k.merge (h.merge r) }
 
+pub keeps-prepared : (changes : Bool) (a b : Option Row) → KeepsRow a b → IsPreparedRow changes a → IsPreparedRow changes b
+keeps-prepared changes a b h k = record { merge = h.merge k.merge; changed = λ so cover. h.changes 3 cover (k.changed so cover) }
+
+pub keeps-found : (old new : Slots) → ((id : InodeId) → KeepsRow (at_place old id) (at_place new id)) → (id : InodeId) → KeepsRow (row_of (numbered 0 old) id) (row_of (numbered 0 new) id)
+keeps-found old new kept id = subst (λ (o : Option Row). KeepsRow o (row_of (numbered 0 new) id)) (sym (found id old)) (subst (λ (o : Option Row). KeepsRow (at_place old id) o) (sym (found id new)) (kept id))
+
 -- a place that is written, and the others
 pub keeps-set : (rows : Slots) (id other : InodeId) (new : Option Row) → id.0 < length rows → KeepsRow (at_place rows id) new → KeepsRow (at_place rows other) (at_place (set rows id.0 new) other)
 keeps-set rows id other new lt h = by_id other id
-    (λ e. subst (λ (j : InodeId). KeepsRow (at_place rows j) (at_place (set rows id.0 new) j)) (sym e) (subst (λ (o : Option Row). KeepsRow (at_place rows id) o) (sym (at_written_from rows id.0 new lt)) h))
-    (λ ne. subst (λ (o : Option Row). KeepsRow (at_place rows other) o) (sym (at_other rows id other new ne)) (keeps-itself (at_place rows other)))
-
-pub at-written : (rows : Slots) (id : InodeId) (new : Option Row) → id.0 < length rows → at_place (set rows id.0 new) id ≡ new
-at-written rows id new lt = at_written_from rows id.0 new lt
-
-pub slot_read : (rows : Slots) (i : ℕ) (slot : Option Row) → i < length rows → slot ≡ get_or rows i slot → flat (slice_get rows i) ≡ slot
-slot_read [] i slot lt e = absurd (omega arith)
-slot_read (s ∷ rows) zero slot lt e = sym e
-slot_read (s ∷ rows) (suc i) slot lt e = slot_read rows i slot (omega arith) e
-
-pub at_past : (rows : Slots) (i : ℕ) → length rows ≤ i → flat (slice_get rows i) ≡ None
-at_past [] i le = refl
-at_past (s ∷ rows) zero le = absurd (omega arith)
-at_past (s ∷ rows) (suc i) le = at_past rows i (omega arith)
+    (λ e. subst (λ (j : InodeId). KeepsRow (at_place rows j) (at_place (set rows id.0 new) j)) (sym e) (subst (λ (o : Option Row). KeepsRow (at_place rows id) o) (sym (place-set-here rows id new lt)) h))
+    (λ ne. subst (λ (o : Option Row). KeepsRow (at_place rows other) o) (sym (place-set-there rows id other new ne)) (keeps-itself (at_place rows other)))
 
 pub get_or_any : (ids : List InodeId) (i : ℕ) (a b : InodeId) → i < length ids → get_or ids i a ≡ get_or ids i b
 get_or_any [] i a b lt = absurd (omega arith)

@@ -1,7 +1,6 @@
 -- What rows count, as a row comes, and as one is changed.
-use Rattle.std.proofs.Common.{◌≡◌, ℕ, zero, suc, ◌+◌, ◌-◌, ◌^◌, ◌<◌, ◌≤◌, List, [], ◌∷◌, ◌++◌, Bool, true, false, Option, Some, None, set, map, length, refl, sym, ap, subst, ◌∙◌, arith}
+use Rattle.std.proofs.Common.{◌≡◌, ℕ, zero, suc, ◌+◌, ◌-◌, ◌<◌, ◌≤◌, List, [], ◌∷◌, ◌++◌, true, false, Option, Some, None, set, map, length, refl, sym, ap, subst, ◌∙◌, arith}
 use Rattle.std.specs.Prelude.{◌≢◌}
-use Rattle.std.specs.List.{Contains}
 use Rattle.std.specs.Option.{option_map}
 use Rattle.std.specs.FinMap.Entries.{put}
 use Rattle.std.proofs.lemmas.List.Elements.{Contains-append_left, Contains-append_right}
@@ -17,13 +16,12 @@ use Rattle.inode_table.specs.declared.row.Row.{Row}
 use Rattle.inode_table.specs.RowHistory.{RowHistory, RowState, File, Dir, Table, id_order, row_at}
 use Rattle.inode_table.specs.Numbered.{state_of, at_place, with_names}
 use Rattle.inode_table.specs.Names.{named_in, times_named}
-use Rattle.inode_table.specs.Stands.{root_id}
 use Rattle.inode_table.specs.Slots.{Slots, table_in, AreCounted, AreListed}
 use Rattle.inode_table.specs.Totals.{total, weight, records_in, entries_of, block_count, blocks_named}
 use Rattle.inode_table.specs.Kept.{IsBare, rows_in}
 use Rattle.inode_table.proofs.Reading.{by_id}
 use Rattle.inode_table.proofs.Naming.{put-total}
-use Rattle.inode_table.proofs.Placing.{slot-told, sorted-table, table-put, total-new, length-put-new, length-put-old, table-recounted, total-recounted, slot_there, place-within, place-set-here, place-set-there}
+use Rattle.inode_table.proofs.Placing.{slot-told, sorted-table, table-put, total-new, length-put-new, length-put-old, table-recounted, total-recounted, place-within, place-set-here, place-set-there}
 
 -- what nothing speaks for is 0
 is_zero : (n : ℕ) → (0 < n → ⊥) → n ≡ 0
@@ -206,11 +204,11 @@ renamed-at rows after f id old was is =
       was = was;
       here = place-set-here rows id (Some (with_names f old)) (place-within rows id old was);
       there = λ other apart. place-set-there rows id other (Some (with_names f old)) apart;
-      told = table-recounted f rows id old (slot_there rows id old was);
+      told = ap (λ (o : Option Row). table_in (set rows id.0 (option_map (with_names f) o))) (sym was) ∙ table-recounted f rows id;
     })
 
-same_self : (id : InodeId) → one_where (same_id id id) ≡ 1
-same_self id = grind (arith, nat_tests)
+pub same-self : (id : InodeId) → one_where (same_id id id) ≡ 1
+same-self id = grind (arith, nat_tests)
 
 same_other : (id x : InodeId) → x ≢ id → one_where (same_id id x) ≡ 0
 same_other id x apart = elim (same_id id x) as (λ b. same_id id x ≡ b → one_where b ≡ 0) [
@@ -245,12 +243,12 @@ module _ (before after : Slots) (f : ℕ → ℕ) (id : InodeId) (old : Row) (st
 
 pub counted-more : (before after : Slots) (id : InodeId) (old : Row) → Renamed before after (λ n. n + 1) id old → AreOff before (recounts.More id) → AreCounted after []
 counted-more before after id old step off =
-    let one = same_self id in
+    let one = same-self id in
     counted-renamed before after (λ n. n + 1) id old step (recounts.More id) off (omega (arith, one)) (λ x ne. (same_other id x ne, refl)) (omega arith)
 
 pub counted-less : (before after : Slots) (id : InodeId) (old : Row) → Renamed before after (λ n. n - 1) id old → AreOff before (recounts.Less id) → AreCounted after []
 counted-less before after id old step off =
-    let one = same_self id in
+    let one = same-self id in
     let was = off.counted id old step.was in
     counted-renamed before after (λ n. n - 1) id old step (recounts.Less id) off (omega (arith, one, was)) (λ x ne. (refl, same_other id x ne)) (omega (arith, one, was))
 

@@ -1,21 +1,19 @@
 -- What a table and snapshots in memory tell of the plain ones.
-use Rattle.std.proofs.Common.{◌≡◌, ℕ, Bool, true, false, cond, max, ◌⊎◌, inl, inr, nat_eq, List, [], ◌∷◌, map, filter, Option, Some, None, refl, sym, ap, ◌∙◌}
+use Rattle.std.proofs.Common.{◌≡◌, true, false, max, ◌⊎◌, inl, inr, nat_eq, List, [], ◌∷◌, map, Option, Some, None, refl, ap, ◌∙◌}
 use Rattle.std.specs.Option.{option_map}
 use Rattle.std.specs.Cmp.{nat_eq_equiv}
 use Rattle.std.specs.Ordering.{eq_by_cmp}
-use Rattle.std.specs.FinMap.Entries.{find}
 use Rattle.std.proofs.lemmas.Bool.{cases_Bool}
 use Rattle.hs_types.specs.declared.ids.InodeId.{InodeId}
 use Rattle.hs_types.specs.declared.name.SnapItem.{SnapItem}
 use Rattle.hs_plain.specs.declared.state.Member.{Member}
 use Rattle.hs_plain.specs.declared.state.FileBlocks.{FileBlocks}
-use Rattle.hs_plain.specs.Tree.{same_inode}
 use Rattle.snapshot_manager.specs.Snapshots.{Snapshots, greatest, last_id}
 use Rattle.snapshot_manager.specs.Members.{of_dir}
 use Rattle.inode_table.specs.declared.row.Row.{Row}
-use Rattle.inode_table.specs.Marks.{Mark, last_of}
-use Rattle.inode_table.specs.RowHistory.{RowState, id_order, row_at, marks_of, mark_of}
-use Rattle.inode_table.specs.Numbered.{row_of, state_of, table_of, mark_of_row, marks_in, number_or, last_in}
+use Rattle.inode_table.specs.Marks.{last_of}
+use Rattle.inode_table.specs.RowHistory.{id_order, row_at, marks_of, mark_of}
+use Rattle.inode_table.specs.Numbered.{row_of, state_of, table_of, mark_of_row, marks_in, number_or, last_live}
 use Rattle.inode_table.specs.Joined.{told, AreTold}
 
 pub row-told : (rows : List (InodeId × Row)) (id : InodeId) → row_at (table_of rows) id ≡ option_map state_of (row_of rows id)
@@ -45,5 +43,5 @@ greatest_of (m ∷ ms) dir = by (greatest_of ms dir) (cases_Bool (nat_eq dir.0 m
     by rest (inl own) = let same : nat_eq m.directory.0 dir.0 ≡ true = nat_eq_equiv.symm m.directory.0 dir.0 ∙ own in rw (own, same) (ap (λ n. max m.snapshot.0 n) rest)
     by rest (inr other) = let apart : nat_eq m.directory.0 dir.0 ≡ false = nat_eq_equiv.symm m.directory.0 dir.0 ∙ other in rw (other, apart) rest
 
-pub last-told : (members : List (Member FileBlocks)) (snaps : Snapshots) (dir : InodeId) → AreTold members snaps → last_in snaps dir ≡ last_of members dir
+pub last-told : (members : List (Member FileBlocks)) (snaps : Snapshots) (dir : InodeId) → AreTold members snaps → last_live snaps dir ≡ last_of members dir
 last-told members snaps dir t = ap (λ items. number_or (last_id items)) (t.tables dir) ∙ number_of_last (of_dir dir (map told members)) ∙ greatest_of members dir

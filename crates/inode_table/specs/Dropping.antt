@@ -11,7 +11,7 @@ use Rattle.inode_table.specs.RowHistory.{id_order}
 use Rattle.inode_table.specs.Numbered.{history_of, state_of, at_place}
 use Rattle.inode_table.specs.Totals.{block_count, blocks_named, records_in, entries_of, weight}
 use Rattle.inode_table.specs.Slots.{Slots, table_in, named_rows, AreCounted, AreListed}
-use Rattle.inode_table.specs.Merged.{merged_rows, ids_dropped, blocks_dropped, IsMergeable}
+use Rattle.inode_table.specs.Merged.{merged_rows, ids_dropped, blocks_dropped, IsMergeable, LeavesRows}
 
 -- the row is there, with that record, and prepared
 abbrev pub HasRecord : ℕ → Option Row → Type 0
@@ -20,6 +20,7 @@ HasRecord i (Some row) = (i < records_in (history_of row.rows)) × IsMergeable r
 
 pub record Drops (i : ℕ) (old new : Rows) (dropped : Dropped) : Type 0 where
   pub rows : history_of new ≡ merged_rows i (history_of old)
+  pub room : LeavesRows old new
   pub ids : dropped.ids ≡ ids_dropped i (history_of old)
   pub blocks : dropped.blocks ≡ blocks_dropped i (history_of old)
   pub count : dropped.count + block_count (history_of new) ≡ block_count (history_of old)

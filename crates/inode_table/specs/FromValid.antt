@@ -7,7 +7,7 @@ use Rattle.hs_plain.specs.declared.state.FileBlocks.{FileBlocks}
 use Rattle.hs_plain.specs.Tree.{node_at}
 use Rattle.hs_plain.specs.Valid.{IsValid}
 use Rattle.inode_table.specs.Reads.{IsNodes, Has}
-use Rattle.inode_table.specs.Marks.{Marks, IsTop}
+use Rattle.inode_table.specs.Marks.{RowMarks, IsTop}
 use Rattle.inode_table.specs.Stands.{root_id}
 
 pub record GivesNodes (state : State FileBlocks) : Type 0 where
@@ -19,4 +19,4 @@ abbrev pub FromValidLaw : Type 0
 FromValidLaw = (state : State FileBlocks) → IsValid state → GivesNodes state
 
 abbrev pub TopLaw : Type 0
-TopLaw = (state : State FileBlocks) (marks : Marks) → IsValid state → (marks root_id).since ≡ 0 → IsTop state.members marks root_id
+TopLaw = (state : State FileBlocks) (marks : RowMarks) → IsValid state → (marks root_id).since ≡ 0 → IsTop state.members marks root_id

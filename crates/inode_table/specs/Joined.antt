@@ -1,5 +1,5 @@
 -- What a table and snapshots in memory tell of the plain ones.
-use Rattle.std.specs.Prelude.{◌≡◌, List, [], ◌∷◌, map, Option}
+use Rattle.std.specs.Prelude.{◌≡◌, List, map}
 use Rattle.std.specs.Option.{option_map}
 use Rattle.hs_types.specs.declared.ids.InodeId.{InodeId}
 use Rattle.hs_types.specs.declared.name.SnapItem.{SnapItem}
@@ -10,7 +10,7 @@ use Rattle.snapshot_manager.specs.Members.{AreMembers}
 use Rattle.inode_table.specs.declared.row.Row.{Row}
 use Rattle.inode_table.specs.Marks.{last_of}
 use Rattle.inode_table.specs.RowHistory.{row_at, marks_of}
-use Rattle.inode_table.specs.Numbered.{row_of, state_of, table_of, marks_in, last_in}
+use Rattle.inode_table.specs.Numbered.{row_of, state_of, table_of, marks_in, last_live}
 
 -- a snapshot of a plain state, as snapshots in memory have it
 abbrev pub told : Member FileBlocks → InodeId × SnapItem
@@ -30,4 +30,4 @@ MarksLaw = (rows : List (InodeId × Row)) (id : InodeId) → marks_of (table_of 
 
 -- the last live ids are the plain state's
 abbrev pub LastLaw : Type 0
-LastLaw = (members : List (Member FileBlocks)) (snaps : Snapshots) (dir : InodeId) → AreTold members snaps → last_in snaps dir ≡ last_of members dir
+LastLaw = (members : List (Member FileBlocks)) (snaps : Snapshots) (dir : InodeId) → AreTold members snaps → last_live snaps dir ≡ last_of members dir

@@ -92,6 +92,7 @@ pub record CanChange (table : Table) (id : InodeId) (what : Change) : Type 0 whe
   pub fits : FitsRows what row.rows
   pub entry : FitsTable what table
 
+-- a directory's history is as `DirRows` keeps it
 abbrev pub AreSound : RowHistory → Type 0
 AreSound (File file) = Unit {0}
 AreSound (Dir dir) = IsSound dir
@@ -164,7 +165,7 @@ abbrev pub all_ahead : Table → List InodeId → ℕ
 all_ahead table [] = 0
 all_ahead table (id ∷ ids) = blocks_ahead (rows_at table id) + all_ahead table ids
 
--- what is made for an insertion of the next id and three changes of each of so many rows
+-- what is made for an insertion of the next id and so many changes, which may name so many blocks more
 pub record IsPrepared (changes ahead : ℕ) (room : TableRoom) : Type 0 where
   pub slots : 1 ≤ room.slots
   pub index : changes + 1 ≤ room.index

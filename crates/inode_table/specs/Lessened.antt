@@ -1,5 +1,5 @@
 -- Private: rows at their places, as they are named less and go.
-use Rattle.std.specs.Prelude.{◌≡◌, ◌≢◌, ℕ, ◌+◌, ◌-◌, ◌≤◌, Bool, false, ◌==◌, if◌then◌else◌, List, [], ◌∷◌, ◌++◌, length, Option, Some, None, slice_set}
+use Rattle.std.specs.Prelude.{◌≡◌, ◌≢◌, ◌⊎◌, ℕ, ◌+◌, ◌-◌, ◌≤◌, Bool, false, ◌==◌, if◌then◌else◌, List, [], ◌∷◌, ◌++◌, length, Option, Some, None, slice_set}
 use Rattle.std.specs.Option.{option_map}
 use Rattle.hs_types.specs.declared.ids.BlockId.{BlockId}
 use Rattle.hs_types.specs.declared.ids.InodeId.{InodeId}
@@ -8,6 +8,7 @@ use Rattle.dir_changes.specs.History.{Past}
 use Rattle.inode_table.specs.declared.row.Row.{Row}
 use Rattle.inode_table.specs.Stands.{root_id}
 use Rattle.inode_table.specs.Numbered.{at_place}
+use Rattle.inode_table.specs.Kept.{rows_in}
 use Rattle.inode_table.specs.Indexed.{Index}
 use Rattle.inode_table.specs.Tabled.{Tabled}
 use Rattle.inode_table.specs.Released.{ReleasedBy}
@@ -52,6 +53,10 @@ deleted_of (Some past) = past.diff.deleted
 abbrev pub TakenAt : InodeId → Slots → Option Row → Slots → Type 0
 TakenAt id before None after = (after ≡ before) × ((row : Row) → at_place before id ≡ Some row → id ≢ root_id → row.names ≡ 0 → ⊥)
 TakenAt id before (Some row) after = (after ≡ slice_set before id.0 None) × (at_place before id ≡ Some row) × (id ≢ root_id) × (row.names ≡ 0)
+
+-- each row goes, or has its rows as before, with what was made for them
+abbrev pub StaysOrGoes : Slots → Slots → Type 0
+StaysOrGoes before after = (id : InodeId) → (rows_in (at_place after id) ≡ None) ⊎ (rows_in (at_place after id) ≡ rows_in (at_place before id))
 
 -- what holds between the rows that go: names are counted, there is room on the stack for each row that is named, and in `waiting` for
 -- each block that a state names

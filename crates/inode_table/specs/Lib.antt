@@ -1,4 +1,5 @@
 pub mod Acyclic
+pub mod Ahead
 pub mod Blocked
 pub mod Calls
 pub mod Climb
@@ -19,6 +20,7 @@ pub mod Names
 pub mod Numbered
 pub mod Once
 pub mod Places
+pub mod Prepared
 pub mod Reads
 pub mod Records
 pub mod Recounts

@@ -13,16 +13,16 @@ pub record Mark : Type 0 where
   pub carry : ℕ
 
 -- the marks of each row
-abbrev pub Marks : Type 0
-Marks = InodeId → Mark
+abbrev pub RowMarks : Type 0
+RowMarks = InodeId → Mark
 
 -- the copied tree of a snapshot has the inode
 abbrev pub InCopy : {B : Type 0} → Member B → InodeId → Type 0
 InCopy member id = Has (node_at member.tree) id
 
--- what the marks say of the copied trees of live snapshots
-pub record AreMarks {B : Type 0} (live : Nodes B) (members : List (Member B)) (marks : Marks) (issued : ℕ) : Type 0 where
-  -- first part: above `since` a copied tree has a row exactly where it has its parent or is the row's own; and where it has both, they stand so there
+-- what the marks of live rows say of the copied trees of live snapshots; that the marks of all rows are issued is `AreMarksIssued`
+pub record AreMarks {B : Type 0} (live : Nodes B) (members : List (Member B)) (marks : RowMarks) (issued : ℕ) : Type 0 where
+  -- first part: above `since` a copied tree has a row exactly where it has its parent, or where the row is the snapshot's very directory; and where it has both, they stand so there
   pub down : (p x : InodeId) (m : Member B) → Child live p x → Contains members m → (marks x).since < m.snapshot.0 → InCopy m x → (m.directory ≢ x) → InCopy m p
   pub up : (p x : InodeId) (m : Member B) → Child live p x → Contains members m → (marks x).since < m.snapshot.0 → InCopy m p → InCopy m x × Child (node_at m.tree) p x
   -- second part: up to `since` a live id whose copied tree has the row is at most `carry`
@@ -42,12 +42,12 @@ abbrev pub marked : Mark → ℕ → ℕ
 marked mark n = if nat_lt mark.since n then n else mark.carry
 
 -- the walk from a number on, over these inodes
-abbrev pub cover_from : (InodeId → ℕ) → Marks → ℕ → List InodeId → ℕ
+abbrev pub cover_from : (InodeId → ℕ) → RowMarks → ℕ → List InodeId → ℕ
 cover_from last marks n [] = n
 cover_from last marks n (x ∷ xs) = cover_from last marks (marked (marks x) (max n (last x))) xs
 
 -- the cover of the last inode of a chain
-abbrev pub cover : (InodeId → ℕ) → Marks → List InodeId → ℕ
+abbrev pub cover : (InodeId → ℕ) → RowMarks → List InodeId → ℕ
 cover last marks chain = cover_from last marks 0 chain
 
 -- the ids right below a place, down to the end of the path
@@ -62,19 +62,19 @@ abbrev pub IsChain : {B : Type 0} → Nodes B → Names → List InodeId → Typ
 IsChain nodes path [] = ⊥
 IsChain nodes path (x ∷ xs) = (id_of (nodes []) ≡ Some x) × Leads nodes [] path xs
 
--- the root stands in copied trees as their own alone, and its marks are 0; ids are above 0
-pub record IsTop {B : Type 0} (members : List (Member B)) (marks : Marks) (top : InodeId) : Type 0 where
+-- the top is in no copied tree but those of its own snapshots, and its `since` is 0; the ids of snapshots are above 0
+pub record IsTop {B : Type 0} (members : List (Member B)) (marks : RowMarks) (top : InodeId) : Type 0 where
   pub own : (m : Member B) → Contains members m → InCopy m top → m.directory ≡ top
   pub above : (m : Member B) → Contains members m → 0 < m.snapshot.0
   pub since : (marks top).since ≡ 0
 
 abbrev pub CoverLaw : Type 0
-CoverLaw = (live : Nodes FileBlocks) (members : List (Member FileBlocks)) (marks : Marks) (issued : ℕ) (top : InodeId) (path : Names) (chain : List InodeId) (x : InodeId) (m : Member FileBlocks)
+CoverLaw = (live : Nodes FileBlocks) (members : List (Member FileBlocks)) (marks : RowMarks) (issued : ℕ) (top : InodeId) (path : Names) (chain : List InodeId) (x : InodeId) (m : Member FileBlocks)
     → AreMarks live members marks issued → IsTop members marks top → id_of (live []) ≡ Some top → IsChain live path chain → id_of (live path) ≡ Some x
     → Contains members m → InCopy m x → m.snapshot.0 ≤ cover (last_of members) marks chain
 
 -- a row x is set under a parent, or comes anew; every other keeps its parent and its marks, or goes
-pub record Arrives {B : Type 0} (before after : Nodes B) (members : List (Member B)) (old new : Marks) (issued : ℕ) (x : InodeId) (carry : ℕ) : Type 0 where
+pub record Arrives {B : Type 0} (before after : Nodes B) (members : List (Member B)) (old new : RowMarks) (issued : ℕ) (x : InodeId) (carry : ℕ) : Type 0 where
   pub child : (p y : InodeId) → Child after p y → y ≢ x → Child before p y
   pub has : (y : InodeId) → Has after y → y ≢ x → Has before y
   pub other : (y : InodeId) → y ≢ x → new y ≡ old y
@@ -84,12 +84,12 @@ pub record Arrives {B : Type 0} (before after : Nodes B) (members : List (Member
   pub enough : (m : Member B) → Contains members m → InCopy m x → m.snapshot.0 ≤ carry
 
 abbrev pub ArriveLaw : Type 0
-ArriveLaw = (before after : Nodes FileBlocks) (members : List (Member FileBlocks)) (old new : Marks) (issued : ℕ) (x : InodeId) (carry : ℕ)
+ArriveLaw = (before after : Nodes FileBlocks) (members : List (Member FileBlocks)) (old new : RowMarks) (issued : ℕ) (x : InodeId) (carry : ℕ)
     → Arrives before after members old new issued x carry → AreMarks before members old issued → AreMarks after members new issued
 
 -- fewer nodes, each under its parent, and fewer snapshots
 abbrev pub FewerLaw : Type 0
-FewerLaw = (before after : Nodes FileBlocks) (members fewer : List (Member FileBlocks)) (marks : Marks) (issued : ℕ)
+FewerLaw = (before after : Nodes FileBlocks) (members fewer : List (Member FileBlocks)) (marks : RowMarks) (issued : ℕ)
     → ((p y : InodeId) → Child after p y → Child before p y) → ((y : InodeId) → Has after y → Has before y) → ((m : Member FileBlocks) → Contains fewer m → Contains members m)
     → AreMarks before members marks issued → AreMarks after fewer marks issued
 
@@ -99,5 +99,5 @@ pub record Copies {B : Type 0} (live : Nodes B) (path : Names) (m : Member B) : 
   pub copy : (rest : Names) → node_at m.tree rest ≡ live (path ++ rest)
 
 abbrev pub SnapLaw : Type 0
-SnapLaw = (live : Nodes FileBlocks) (members : List (Member FileBlocks)) (marks : Marks) (issued : ℕ) (path : Names) (m : Member FileBlocks)
+SnapLaw = (live : Nodes FileBlocks) (members : List (Member FileBlocks)) (marks : RowMarks) (issued : ℕ) (path : Names) (m : Member FileBlocks)
     → Copies live path m → m.snapshot.0 ≡ issued + 1 → IsNodes live → AreMarks live members marks issued → AreMarks live (members ++ m ∷ []) marks (issued + 1)

@@ -10,12 +10,12 @@ use Rattle.dir_changes.specs.History.{ids_of, dropped_at}
 use Rattle.inode_table.specs.declared.row.Row.{Row}
 use Rattle.inode_table.specs.declared.row.Rows.{Rows}
 use Rattle.inode_table.specs.declared.row.Rows.TheVariants as kinds
-use Rattle.dir_changes.specs.Sound.{IsSound}
+use Rattle.dir_changes.specs.Rows.{UsesMerge}
 use Rattle.inode_table.specs.RowHistory.{RowHistory, RowState, File, Dir, Table, row_at, rows_at, marks_of, id_order}
 use Rattle.inode_table.specs.Records.{Merges}
 use Rattle.inode_table.specs.Whole.{numbers_in}
 use Rattle.inode_table.specs.Numbered.{row_of, history_of}
-use Rattle.inode_table.specs.Kept.{TableValue, TableRoom, IsRowReady}
+use Rattle.inode_table.specs.Kept.{TableValue, TableRoom, AreSound, IsRowReady}
 use Rattle.inode_table.specs.Tabled.{Tabled}
 use Rattle.inode_table.specs.Totals.{records_in}
 use Rattle.inode_table.specs.Released.{all_named_less}
@@ -77,16 +77,23 @@ pub record LeavesRoom (ids : ℕ) (before after : TableRoom) : Type 0 where
   pub stack : before.stack ≤ after.stack + ids
   pub blocks : before.blocks ≤ after.blocks
 
+-- what was made for rows of which a record is taken away stays, but for what that takes
+abbrev pub LeavesRows : Rows → Rows → Type 0
+LeavesRows (kinds.File before) (kinds.File after) = after.saves ≡ before.saves
+LeavesRows (kinds.File before) (kinds.Dir after) = ⊥
+LeavesRows (kinds.Dir before) (kinds.File after) = ⊥
+LeavesRows (kinds.Dir before) (kinds.Dir after) = UsesMerge before.room after.room
+
+abbrev pub LeavesRow : Option Rows → Option Rows → Type 0
+LeavesRow None after = Unit {0}
+LeavesRow (Some before) None = ⊥
+LeavesRow (Some before) (Some after) = LeavesRows before after
+
 abbrev pub ids_dropped_at : ℕ → Option Row → List InodeId
 ids_dropped_at i None = []
 ids_dropped_at i (Some row) = ids_dropped i (history_of row.rows)
 
 -- ---- what is read
-
--- a directory's history is as `DirRows` keeps it
-abbrev pub IsSoundRows : RowHistory → Type 0
-IsSoundRows (File file) = Unit {0}
-IsSoundRows (Dir dir) = IsSound dir
 
 -- one record of one row is taken away; the others read as before, and their marks stay
 pub record MergesOne (before after : Table) (id : InodeId) (i : ℕ) (old new : RowHistory) : Type 0 where
@@ -97,5 +104,5 @@ pub record MergesOne (before after : Table) (id : InodeId) (i : ℕ) (old new : 
   pub reads : Merges i (numbers_in old) old new
 
 abbrev pub MergedLaw : Type 0
-MergedLaw = (t : Tabled) (id : InodeId) (i : ℕ) (row : RowState) → row_at t.rows id ≡ Some row → IsSoundRows row.rows → i < length (numbers_in row.rows)
+MergedLaw = (t : Tabled) (id : InodeId) (i : ℕ) (row : RowState) → row_at t.rows id ≡ Some row → AreSound row.rows → i < length (numbers_in row.rows)
     → MergesOne t.rows (merged id i t).rows id i row.rows (merged_rows i row.rows)

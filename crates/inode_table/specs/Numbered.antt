@@ -7,7 +7,7 @@ use Rattle.snapshot_manager.specs.Snapshots.{Snapshots, snaps_in, last_id}
 use Rattle.inode_table.specs.declared.row.Row.{Row}
 use Rattle.inode_table.specs.declared.row.Rows.{Rows}
 use Rattle.inode_table.specs.declared.row.Rows.TheVariants as kinds
-use Rattle.inode_table.specs.Marks.{Mark, Marks}
+use Rattle.inode_table.specs.Marks.{Mark, RowMarks}
 use Rattle.inode_table.specs.RowHistory.{RowHistory, RowState, File, Dir, Table, id_order}
 
 -- the rows that are there, each with its place as its inode
@@ -45,7 +45,7 @@ abbrev pub mark_of_row : Option Row → Mark
 mark_of_row None = record { since = 0; carry = 0 }
 mark_of_row (Some row) = record { since = row.since.0; carry = row.carry.0 }
 
-abbrev pub marks_in : List (InodeId × Row) → Marks
+abbrev pub marks_in : List (InodeId × Row) → RowMarks
 marks_in rows id = mark_of_row (row_of rows id)
 
 abbrev pub number_or : Option SnapId → ℕ
@@ -53,8 +53,8 @@ number_or None = 0
 number_or (Some id) = id.0
 
 -- the greatest live id of a directory, or 0
-abbrev pub last_in : Snapshots → InodeId → ℕ
-last_in snaps dir = number_or (last_id (snaps_in snaps dir))
+abbrev pub last_live : Snapshots → InodeId → ℕ
+last_live snaps dir = number_or (last_id (snaps_in snaps dir))
 
 -- the row with these marks
 abbrev pub with_marks : SnapId → SnapId → Row → Row

@@ -19,7 +19,7 @@ use Rattle.dir_changes.specs.Entries.{Entries}
 use Rattle.dir_changes.specs.History as dirs
 use Rattle.dir_changes.specs.History.{DirHistory, children_at, marks_at}
 use Rattle.inode_table.specs.Reads.{Shown, ReadsAs}
-use Rattle.inode_table.specs.Marks.{Mark, Marks, InCopy}
+use Rattle.inode_table.specs.Marks.{Mark, RowMarks, InCopy}
 
 -- the states of a file or a directory
 pub data RowHistory : Type 0 where
@@ -83,7 +83,7 @@ abbrev pub mark_of : Option RowState → Mark
 mark_of None = record { since = 0; carry = 0 }
 mark_of (Some row) = record { since = row.since; carry = row.carry }
 
-abbrev pub marks_of : Table → Marks
+abbrev pub marks_of : Table → RowMarks
 marks_of table id = mark_of (row_at table id)
 
 -- the number of the last record, or 0

@@ -1,5 +1,5 @@
 -- Private: rows at their places, and the plain table that they stand for.
-use Rattle.std.specs.Prelude.{◌≡◌, ◌≢◌, ℕ, ◌+◌, ◌-◌, ◌<◌, ◌≤◌, List, [], ◌∷◌, Option, Some, None, nat_lt, vec_len, vec_capacity}
+use Rattle.std.specs.Prelude.{◌≡◌, ◌≢◌, ℕ, ◌+◌, ◌<◌, List, [], ◌∷◌, Option, Some, None, nat_lt}
 use Rattle.std.specs.List.{Contains}
 use Rattle.hs_types.specs.declared.ids.InodeId.{InodeId}
 use Rattle.dir_changes.specs.Counts.{one_where, times}

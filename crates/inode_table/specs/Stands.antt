@@ -1,4 +1,4 @@
--- When a table stands for a state, as far as a rename is concerned; and what a rename does to a table.
+-- When the rows of a table stand for a state, live and frozen, with the marks; and what a rename does to a table.
 use Rattle.std.specs.Prelude.{◌≡◌, ◌≢◌, ℕ, ◌+◌, ◌≤◌, List, Some}
 use Rattle.std.specs.List.{Contains}
 use Rattle.hs_types.specs.Names.{Names}

@@ -1,6 +1,7 @@
--- The whole of what a namenode's table, snapshots and store stand for. No call keeps it yet.
-use Rattle.std.specs.Prelude.{◌≡◌, ◌≢◌, ℕ, ◌+◌, ◌<◌, ◌≤◌, List, [], map, length, true, Option, Some, is_some}
+-- The whole of what a namenode's table, snapshots and store stand for. That whole calls keep it are laws of `table_laws`.
+use Rattle.std.specs.Prelude.{◌≡◌, ◌≢◌, ℕ, ◌+◌, ◌<◌, ◌≤◌, ◌==◌, List, [], ◌∷◌, map, length, true, Option, Some, is_some}
 use Rattle.std.specs.List.{Contains}
+use Rattle.std.specs.FinMap.Entries.{is_sorted}
 use Rattle.hs_types.specs.Blocks.{BlockMap}
 use Rattle.hs_types.specs.declared.ids.InodeId.{InodeId}
 use Rattle.hs_types.specs.declared.ids.BlockId.{BlockId}
@@ -11,9 +12,11 @@ use Rattle.hs_plain.specs.State.{is_snapshottable}
 use Rattle.hs_plain.specs.Valid.{IsValid}
 use Rattle.hs_plain.specs.Viewed as viewed
 use Rattle.hs_plain.specs.Viewed.{HasBytes}
+use Rattle.dir_changes.specs.Counts.{one_where}
 use Rattle.dir_changes.specs.History.{DirHistory}
 use Rattle.dir_changes.specs.Sound.{IsSound}
 use Rattle.snapshot_manager.specs.Snapshots.{Snapshots, snaps_of}
+use Rattle.inode_table.specs.declared.noted.Noted.{Noted}
 use Rattle.inode_table.specs.Acyclic.{AllEnd}
 use Rattle.inode_table.specs.Blocked.{AreBlocks}
 use Rattle.inode_table.specs.Indexed.{Index, IsRising}
@@ -22,7 +25,7 @@ use Rattle.inode_table.specs.Marks.{InCopy}
 use Rattle.inode_table.specs.Names.{times_named}
 use Rattle.inode_table.specs.Once.{IsOnce}
 use Rattle.inode_table.specs.Records.{Recorded}
-use Rattle.inode_table.specs.RowHistory.{Table, RowHistory, RowState, File, Dir, row_at, rows_at, shown, marks_of, last_in}
+use Rattle.inode_table.specs.RowHistory.{Table, RowHistory, RowState, File, Dir, id_order, row_at, rows_at, shown, marks_of, last_in}
 use Rattle.inode_table.specs.Stands.{Stands, root_id}
 use Rattle.inode_table.specs.Tabled.{Tabled}
 use Rattle.inode_table.specs.Totals as totals
@@ -48,6 +51,17 @@ pub record AreRecords (table : Table) (index : Index) (members : List (Member Fi
   pub rising : IsRising index
   pub indexed : (id : InodeId) (rows : RowHistory) (number : ℕ) → rows_at table id ≡ Some rows → Contains (numbers_in rows) number → IsIndexed index members id number
 
+-- how many entries of the index have this tick
+abbrev pub noted_at : ℕ → Index → ℕ
+noted_at tick [] = 0
+noted_at tick (entry ∷ index) = one_where (entry.tick == tick) + noted_at tick index
+
+-- no entry's tick is above this one; each tick has at most three entries, and this one at most so many
+pub record IsFilled (index : Index) (tick used : ℕ) : Type 0 where
+  pub upto : (entry : Noted) → Contains index entry → entry.tick ≤ tick
+  pub few : (other : ℕ) → noted_at other index ≤ 3
+  pub now : noted_at tick index ≤ used
+
 -- ---- names
 
 -- each id in a list has a row, which knows how many lists name it; an id stands in at most one current list, and going up from it ends
@@ -56,6 +70,16 @@ pub record AreNames (table : Table) : Type 0 where
   pub counted : (id : InodeId) (row : RowState) → row_at table id ≡ Some row → row.names ≡ times_named id table
   pub once : IsOnce (shown table 0).entries
   pub ends : AllEnd (shown table 0).entries
+
+-- the rows stand in the order of their ids, none twice
+abbrev pub AreInOrder : Table → Type 0
+AreInOrder table = is_sorted id_order table ≡ true
+
+-- the rows are in order, know truly how often they are named, and no list names the root
+pub record AreNamed (table : Table) : Type 0 where
+  pub order : AreInOrder table
+  pub names : AreNames table
+  pub root : times_named root_id table ≡ 0
 
 -- each row but the root is named: after each call, not within one, nor before `release`
 abbrev pub AllNamed : Table → Type 0
@@ -78,7 +102,9 @@ pub record StandsFor (table : Tabled) (snaps : Snapshots) (state : State FileBlo
   pub stands : Stands table.rows state snaps.issued.0
   pub marks : AreMarksIssued table.rows snaps.issued.0
   pub records : AreRecords table.rows table.index state.members snaps.issued.0
-  pub naming : AreNames table.rows
+  -- the index has at most three entries a tick, none of a later one
+  pub filled : IsFilled table.index state.tick 3
+  pub naming : AreNamed table.rows
   pub named : AllNamed table.rows
   -- snapshottable directories, and the snapshots in order of making, with names, ids and ticks
   pub told : AreTold state.members snaps

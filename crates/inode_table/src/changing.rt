@@ -1,7 +1,6 @@
 //! A change of one row.
-ghost use Rattle.std.specs.Prelude.{◌≡◌, ◌≢◌, ℕ, ◌+◌, ◌-◌, ◌^◌, ◌<◌, ◌≤◌, Some, None, true, false, IsTrue, IsSome, IsOk, IfOk, OnOk, OnErr, vec_len, vec_capacity};
+ghost use Rattle.std.specs.Prelude.{◌≡◌, ◌≢◌, ℕ, ◌+◌, ◌^◌, ◌<◌, ◌≤◌, Some, None, IsOk, IfOk, OnOk, OnErr, cond, nat_lt, length, slice_set, vec_len, vec_capacity};
 ghost use Rattle.std.specs.Option.{option_map};
-ghost use Rattle.std.specs.FinMap.Entries.{put};
 ghost use Rattle.hs_types.specs.declared.ids.InodeId.{InodeId};
 ghost use Rattle.dir_changes.specs.Entries.{id_at};
 ghost use Rattle.dir_changes.specs.History.{last_number, added, removed};
@@ -9,18 +8,54 @@ ghost use Rattle.dir_changes.specs.Sound.{IsSound};
 ghost use Rattle.inode_table.specs.declared.change.Recount.TheVariants as recounts;
 ghost use Rattle.file_changes.specs.History as files;
 ghost use Rattle.inode_table.specs.Edited.{begun, stamp_dir};
-ghost use Rattle.inode_table.specs.Kept.{told, rows_in, AreSound, CanChange, FitsFile, FitsDir, FitsRows, IsReady, HasChangeRoom, UsesChange, blocks_grown};
+ghost use Rattle.inode_table.specs.Kept.{told, rows_in, AreSound, CanChange, FitsFile, FitsDir, FitsRows, IsReady, IsRowReady, HasChangeRoom, UsesChange, blocks_grown, blocks_more};
 ghost use Rattle.inode_table.specs.Numbered.{row_of, at_place, history_of, state_of};
-ghost use Rattle.inode_table.specs.RowHistory.{File, Dir, id_order, last_in};
-ghost use Rattle.inode_table.specs.Slots.{table_in};
-ghost use Rattle.inode_table.specs.Tabled.{changed, changed_rows, changed_row, begun_file, begun_rows, edited_file, edited_dir, lost_unless, recount_of, recount_dir, recount_removed, starts};
+ghost use Rattle.inode_table.specs.RowHistory.{File, last_in, row_at};
+ghost use Rattle.inode_table.specs.Recounts.{FitsSlot, IsSoundSlot, blocks_edited};
+ghost use Rattle.inode_table.specs.Tabled.{changed, changed_rows, changed_row, begun_file, begun_rows, edited_file, edited_dir, lost_unless, recount_in, recount_of, recount_dir, recount_removed, starts_in};
 ghost use Rattle.inode_table.specs.Totals.{weight, block_count};
 
 use crate::change::{Change, Recount};
+use crate::inserting::sum;
+use crate::noted::note_start;
+use crate::preparing::make_room;
+use crate::recounting::recount;
 use crate::row::{Row, Rows};
+use crate::table::{Table, row_at};
 use dir_changes::DirRows;
 use file_changes::FileRows;
-use hs_types::{BlockId, InodeId, List, Name, NoMemory, SnapId};
+use hs_types::{InodeId, Name, NoMemory, SnapId};
+
+impl Table {
+    /// Changes the current state of a row that is there. `cover` is the number of the record that saves the present state: where it
+    /// is above the row's last number such a record is started before, and else, as with 0, none is. The definitions say when a live
+    /// snapshot needs one (`need`).
+    pub fn change(
+        &mut self,
+        id: InodeId,
+        cover: SnapId,
+        tick: u64,
+        what: Change,
+    ) -> Result<(), NoMemory>
+        requires can { CanChange (told self.old).rows id what }
+        requires bound { weight (told self.old).rows < 2 ^ 32 }
+        ensures ok { OnOk result (told self.new ≡ changed id cover.0 tick what (told self.old)) }
+        ensures err { OnErr result (told self.new ≡ told self.old) }
+        ensures there { (other : InodeId) → other ≢ id → rows_in (row_of self.new.rows other) ≡ rows_in (row_of self.old.rows other) }
+        ensures room { HasChangeRoom (blocks_grown cover.0 tick what (row_at (told self.old).rows id)) self.old.room → IsRowReady 1 cover.0 (row_of self.old.rows id) → IsOk result }
+        ensures kept { OnOk result (UsesChange (blocks_grown cover.0 tick what (row_at (told self.old).rows id)) self.old.room self.new.room) }
+        ensures ready { OnOk result ((n : ℕ) → IsRowReady (n + 1) cover.0 (row_of self.old.rows id) → IsRowReady n cover.0 (row_of self.new.rows id)) }
+    {
+        let blocks = blocks_after(&self.rows, id, cover, &what, self.blocks)?;
+        let starts = starts_at(&self.rows, id, cover);
+        make_room(&mut self.index, &mut self.unnamed, self.rows.len(), 1)?;
+        let counted = change_at(&mut self.rows, id, cover, tick, what)?;
+        recount(&mut self.rows, &mut self.unnamed, counted);
+        note_start(&mut self.index, starts, tick, id);
+        self.blocks = blocks;
+        Ok(())
+    }
+}
 
 /// Starts a record where its number is above the last.
 fn begin_file(file: &mut FileRows, cover: SnapId) -> Result<(), NoMemory>
@@ -198,5 +233,148 @@ fn change_row(row: &mut Row, cover: SnapId, tick: u64, what: Change) -> Result<R
             Ok(Recount::Same)
         }
         Rows::Dir(dir) => change_dir(dir, cover, tick, what),
+    }
+}
+
+fn change_slot(
+    slot: &mut Option<Row>,
+    cover: SnapId,
+    tick: u64,
+    what: Change,
+) -> Result<Recount, NoMemory>
+    requires { FitsSlot what slot.old }
+    ensures sound { IsSoundSlot slot.old }
+    ensures recount { IfOk result (λ recount. recount ≡ recount_in cover.0 what (option_map state_of slot.old)) }
+    ensures ok { OnOk result (option_map state_of slot.new ≡ option_map (changed_row cover.0 tick what) (option_map state_of slot.old)) }
+    ensures err { OnErr result (option_map state_of slot.new ≡ option_map state_of slot.old) }
+    ensures room { IsRowReady 1 cover.0 slot.old → IsOk result }
+    ensures kept { OnOk result ((n : ℕ) → IsRowReady (n + 1) cover.0 slot.old → IsRowReady n cover.0 slot.new) }
+{
+    match slot {
+        Some(row) => change_row(row, cover, tick, what),
+        None => unreachable!(),
+    }
+}
+
+/// Changes the row at an inode's place.
+fn change_at(
+    rows: &mut Vec<Option<Row>>,
+    id: InodeId,
+    cover: SnapId,
+    tick: u64,
+    what: Change,
+) -> Result<Recount, NoMemory>
+    requires { FitsSlot what (at_place rows.old.items id) }
+    ensures set { rows.new.items ≡ slice_set rows.old.items id.0 (at_place rows.new.items id) }
+    ensures sound { IsSoundSlot (at_place rows.old.items id) }
+    ensures recount { IfOk result (λ recount. recount ≡ recount_in cover.0 what (option_map state_of (at_place rows.old.items id))) }
+    ensures ok { OnOk result (option_map state_of (at_place rows.new.items id) ≡ option_map (changed_row cover.0 tick what) (option_map state_of (at_place rows.old.items id))) }
+    ensures err { OnErr result (option_map state_of (at_place rows.new.items id) ≡ option_map state_of (at_place rows.old.items id)) }
+    ensures room { IsRowReady 1 cover.0 (at_place rows.old.items id) → IsOk result }
+    ensures kept { OnOk result ((n : ℕ) → IsRowReady (n + 1) cover.0 (at_place rows.old.items id) → IsRowReady n cover.0 (at_place rows.new.items id)) }
+    ensures len { vec_len rows.new ≡ vec_len rows.old }
+    ensures capacity { vec_capacity rows.new ≡ vec_capacity rows.old }
+{
+    change_slot(&mut rows[id.0 as usize], cover, tick, what)
+}
+
+/// Whether a change with that cover starts a record.
+fn starts_at(rows: &Vec<Option<Row>>, id: InodeId, cover: SnapId) -> bool
+    ensures { result ≡ starts_in cover.0 (option_map state_of (at_place rows.now.items id)) }
+{
+    match row_at(rows, id) {
+        Some(row) => last_of(row) < cover,
+        None => false,
+    }
+}
+
+/// The number of the last record, or 0.
+fn last_of(row: &Row) -> SnapId
+    ensures { result.0 ≡ last_in (history_of row.now.rows) }
+{
+    match &row.rows {
+        Rows::File(file) => file.last_number(),
+        Rows::Dir(dir) => dir.last_number(),
+    }
+}
+
+/// How many blocks the states of all rows name after a change, where these are named before it.
+fn blocks_after(
+    rows: &Vec<Option<Row>>,
+    id: InodeId,
+    cover: SnapId,
+    what: &Change,
+    blocks: usize,
+) -> Result<usize, NoMemory>
+    requires { (row : Row) → at_place rows.now.items id ≡ Some row → block_count (history_of row.rows) ≤ blocks }
+    ensures ok { IfOk result (λ after. (row : Row) → at_place rows.now.items id ≡ Some row → (tick : ℕ) → after + block_count (history_of row.rows) ≡ blocks + block_count (changed_rows cover.0 tick what.now (history_of row.rows))) }
+    ensures room { ((tick : ℕ) → blocks + blocks_grown cover.0 tick what.now (option_map state_of (at_place rows.now.items id)) < 2 ^ 64) → IsOk result }
+{
+    match row_at(rows, id) {
+        Some(row) => blocks_of_row(&row.rows, cover, what, blocks),
+        None => Ok(blocks),
+    }
+}
+
+fn blocks_of_row(
+    rows: &Rows,
+    cover: SnapId,
+    what: &Change,
+    blocks: usize,
+) -> Result<usize, NoMemory>
+    requires { block_count (history_of rows.now) ≤ blocks }
+    ensures ok { IfOk result (λ after. (tick : ℕ) → after + block_count (history_of rows.now) ≡ blocks + block_count (changed_rows cover.0 tick what.now (history_of rows.now))) }
+    ensures room { ((tick : ℕ) → blocks + blocks_more (history_of rows.now) (changed_rows cover.0 tick what.now (history_of rows.now)) < 2 ^ 64) → IsOk result }
+{
+    match rows {
+        Rows::File(file) => blocks_of_file(file, cover, what, blocks),
+        Rows::Dir(_) => Ok(blocks),
+    }
+}
+
+fn blocks_of_file(
+    file: &FileRows,
+    cover: SnapId,
+    what: &Change,
+    blocks: usize,
+) -> Result<usize, NoMemory>
+    requires { block_count (File file.now.history) ≤ blocks }
+    ensures ok { IfOk result (λ after. (tick : ℕ) → after + block_count (File file.now.history) ≡ blocks + block_count (changed_rows cover.0 tick what.now (File file.now.history))) }
+    ensures room { ((tick : ℕ) → blocks + blocks_more (File file.now.history) (changed_rows cover.0 tick what.now (File file.now.history)) < 2 ^ 64) → IsOk result }
+{
+    let own = own_blocks(file);
+    let others = blocks_of_others(file, cover, own, blocks);
+    let now = blocks_of_change(what, own);
+    sum(others, now)
+}
+
+fn own_blocks(file: &FileRows) -> usize
+    ensures { result ≡ length file.now.history.current.blocks }
+{
+    file.current().blocks.len()
+}
+
+/// All but those of the current state, which count where a record is started that saves it.
+fn blocks_of_others(file: &FileRows, cover: SnapId, own: usize, blocks: usize) -> usize
+    requires { own ≤ blocks }
+    ensures { result + own ≡ blocks + cond (nat_lt (files.last_number file.now.history) cover.0) own 0 }
+{
+    if file.last_number() < cover {
+        blocks
+    } else {
+        blocks - own
+    }
+}
+
+/// How many blocks the current state of a file names after a change.
+fn blocks_of_change(what: &Change, own: usize) -> usize
+    ensures { result ≡ blocks_edited what.now own }
+{
+    match what {
+        Change::Body { blocks, .. } => blocks.len(),
+        Change::Mode(_) => own,
+        Change::Add { .. } => own,
+        Change::Remove { .. } => own,
+        Change::Move(_) => own,
     }
 }

@@ -11,6 +11,7 @@ ghost use Rattle.inode_table.specs.Tabled.{inserted, stamp_of};
 ghost use Rattle.inode_table.specs.Totals.{weight, block_count};
 
 use crate::noted::{Noted, note};
+use crate::preparing::make_room;
 use crate::row::{Row, Rows};
 use crate::table::Table;
 use hs_types::{InodeId, NoMemory, SnapId};
@@ -105,9 +106,7 @@ fn make_place(
 {
     let place = id.0 as usize;
     rows.reserve((place - rows.len()).saturating_add(1))?;
-    index.reserve(1)?;
-    unnamed.reserve(place.saturating_add(2))?;
-    Ok(())
+    make_room(index, unnamed, place.saturating_add(1), 1)
 }
 
 /// Puts a row at its place, which is behind all, where there is room.

@@ -15,6 +15,7 @@ ghost use Rattle.inode_table.specs.Released.{BlocksOnceLaw, LetGoLaw, ReleasedSt
 ghost use Rattle.inode_table.specs.Recounts.{ChangedNamedLaw, ChangedWeightLaw};
 ghost use Rattle.inode_table.specs.Start.{StartStandsLaw};
 ghost use Rattle.inode_table.specs.Records.{LoseLaw, StartLaw, MergeLaw};
+ghost use Rattle.inode_table.specs.Ahead.{PreparedLaw, InsertFitsLaw, InsertLeavesLaw, ChangeFitsLaw, ChangeLeavesLaw, MarksLeaveLaw, ReleaseFitsLaw};
 ghost use Rattle.inode_table.specs.Edited.{RemoveRowLaw};
 ghost use Rattle.inode_table.specs.Once.{OnceRemoveLaw, OnceAddLaw};
 ghost use Rattle.inode_table.specs.Acyclic.{FewerEndLaw, AddEndLaw};
@@ -87,7 +88,7 @@ pub fn cover()
     ensures { CoverLaw }
 {}
 
-/// Marks stay true as a row comes, or comes under another directory.
+/// Marks stay true as a row comes, or is renamed.
 pub fn arrive()
     ensures { ArriveLaw }
 {}
@@ -280,4 +281,39 @@ pub fn changed_named()
 /// And to what the table weighs.
 pub fn changed_weight()
     ensures { ChangedWeightLaw }
+{}
+
+/// After `prepare` there is room for all the calls that it promises.
+pub fn prepared()
+    ensures { PreparedLaw }
+{}
+
+/// An insertion that is promised is answered Ok.
+pub fn insert_fits()
+    ensures { InsertFitsLaw }
+{}
+
+/// And leaves room for the other calls.
+pub fn insert_leaves()
+    ensures { InsertLeavesLaw }
+{}
+
+/// So is a change that is promised.
+pub fn change_fits()
+    ensures { ChangeFitsLaw }
+{}
+
+/// And it leaves room for the others.
+pub fn change_leaves()
+    ensures { ChangeLeavesLaw }
+{}
+
+/// New marks of a row take no room.
+pub fn marks_leave()
+    ensures { MarksLeaveLaw }
+{}
+
+/// And the next release is answered Ok.
+pub fn release_fits()
+    ensures { ReleaseFitsLaw }
 {}

@@ -1,6 +1,7 @@
 //! Rows of inodes: what each shows now and at each snapshot, and the plain state that a table of them stands for.
 #![tactic(auto)]
 
+mod always;
 mod change;
 mod changing;
 mod counted;
@@ -10,6 +11,7 @@ mod inserting;
 pub mod laws;
 mod merging;
 mod noted;
+mod preparing;
 mod recounting;
 mod releasing;
 mod row;
@@ -20,4 +22,4 @@ pub use counted::Counted;
 pub use counting::TableCounts;
 pub use freed::Freed;
 pub use row::{Row, Rows};
-pub use table::{Table, cover};
+pub use table::Table;

@@ -6,7 +6,7 @@ ghost use Rattle.hs_types.specs.declared.ids.InodeId.{InodeId};
 ghost use Rattle.inode_table.specs.declared.row.Rows.TheVariants as kinds;
 ghost use Rattle.inode_table.specs.Dropping.{HasRecord, Drops, DropsRow, DropsAt};
 ghost use Rattle.inode_table.specs.Kept.{told, rows_in, KeepsRoom};
-ghost use Rattle.inode_table.specs.Merged.{merged, ids_dropped_at, IsMergeable, IsRowMergeable, CanMerge, KeepsRow, LeavesRoom};
+ghost use Rattle.inode_table.specs.Merged.{merged, ids_dropped_at, IsMergeable, IsRowMergeable, CanMerge, KeepsRow, LeavesRow, LeavesRoom};
 ghost use Rattle.inode_table.specs.Numbered.{row_of, at_place, history_of, state_of};
 ghost use Rattle.inode_table.specs.Slots.{table_in};
 ghost use Rattle.inode_table.specs.Totals.{records_in};
@@ -29,23 +29,12 @@ pub struct Dropped {
 }
 
 impl Table {
-    /// Makes room: afterwards one `merge` of each of these rows that is there, and the next release, can't want memory.
-    pub fn prepare_merge(&mut self, ids: &List<InodeId>) -> Result<(), NoMemory>
-        ensures same { told self.new ≡ told self.old }
-        ensures kept { KeepsRoom self.old.room self.new.room }
-        ensures rows_kept { (id : InodeId) → KeepsRow (row_of self.old.rows id) (row_of self.new.rows id) }
-        ensures room { OnOk result (0 < self.new.room.blocks) }
-        ensures rows { OnOk result ((id : InodeId) → Contains ids.now id → IsRowMergeable (row_of self.new.rows id)) }
-    {
-        self.waiting.reserve(self.blocks)?;
-        prepare_rows(&mut self.rows, ids.items())
-    }
-
     /// Takes record `i` of a row away: a file's is dropped, a directory's is taken into the one before it, or dropped as the first.
     /// It takes no memory.
     pub fn merge(&mut self, id: InodeId, i: usize)
         requires { CanMerge self.old id i }
         ensures merged { told self.new ≡ merged id i (told self.old) }
+        ensures here { LeavesRow (rows_in (row_of self.old.rows id)) (rows_in (row_of self.new.rows id)) }
         ensures there { (other : InodeId) → other ≢ id → rows_in (row_of self.new.rows other) ≡ rows_in (row_of self.old.rows other) }
         ensures room { LeavesRoom (length (ids_dropped_at i (row_of self.old.rows id))) self.old.room self.new.room }
     {
@@ -54,59 +43,6 @@ impl Table {
         name_all_less(&mut self.rows, &mut self.unnamed, dropped.ids.items());
         wait(&mut self.waiting, dropped.blocks.items());
         self.blocks -= dropped.count;
-    }
-}
-
-/// Prepares each of these rows that is there for a merge.
-fn prepare_rows(rows: &mut Vec<Option<Row>>, ids: &[InodeId]) -> Result<(), NoMemory>
-    ensures told { table_in rows.new.items ≡ table_in rows.old.items }
-    ensures len { vec_len rows.new ≡ vec_len rows.old }
-    ensures capacity { vec_capacity rows.new ≡ vec_capacity rows.old }
-    ensures kept { (id : InodeId) → KeepsRow (at_place rows.old.items id) (at_place rows.new.items id) }
-    ensures ready { OnOk result ((id : InodeId) → Contains ids.now id → IsRowMergeable (at_place rows.new.items id)) }
-{
-    for id in ids {
-        prepare_at(rows, *id)?;
-    }
-    Ok(())
-}
-
-/// Prepares the row of an inode, where it is there.
-fn prepare_at(rows: &mut Vec<Option<Row>>, id: InodeId) -> Result<(), NoMemory>
-    ensures told { table_in rows.new.items ≡ table_in rows.old.items }
-    ensures len { vec_len rows.new ≡ vec_len rows.old }
-    ensures capacity { vec_capacity rows.new ≡ vec_capacity rows.old }
-    ensures kept { (other : InodeId) → KeepsRow (at_place rows.old.items other) (at_place rows.new.items other) }
-    ensures ready { OnOk result (IsRowMergeable (at_place rows.new.items id)) }
-{
-    let place = id.0 as usize;
-    if place < rows.len() {
-        prepare_slot(&mut rows[place])
-    } else {
-        Ok(())
-    }
-}
-
-fn prepare_slot(slot: &mut Option<Row>) -> Result<(), NoMemory>
-    ensures same { option_map state_of slot.new ≡ option_map state_of slot.old }
-    ensures kept { KeepsRow slot.old slot.new }
-    ensures ready { OnOk result (IsRowMergeable slot.new) }
-{
-    match slot {
-        Some(row) => prepare_row(row),
-        None => Ok(()),
-    }
-}
-
-/// A file's records are dropped without memory.
-fn prepare_row(row: &mut Row) -> Result<(), NoMemory>
-    ensures same { state_of row.new ≡ state_of row.old }
-    ensures kept { KeepsRow (Some row.old) (Some row.new) }
-    ensures ready { OnOk result (IsMergeable row.new.rows) }
-{
-    match &mut row.rows {
-        Rows::File(_) => Ok(()),
-        Rows::Dir(dir) => dir.prepare(),
     }
 }
 

@@ -1,5 +1,5 @@
 //! The index: which rows were made, or got a record, at which tick.
-ghost use Rattle.std.specs.Prelude.{◌≡◌, ◌+◌, ◌<◌, ◌≤◌, true, false, is_some, length, IfOk, vec_len, vec_capacity};
+ghost use Rattle.std.specs.Prelude.{◌≡◌, ◌+◌, ◌<◌, ◌≤◌, cond, true, false, is_some, length, IfOk, vec_len, vec_capacity};
 ghost use Rattle.std.specs.List.Sorted.{IsPartitionPoint};
 ghost use Rattle.inode_table.specs.Indexed.{noted, made_between, ids_there, is_upto, IsRising};
 ghost use Rattle.inode_table.specs.Kept.{told};
@@ -51,6 +51,20 @@ pub fn note(index: &mut Vec<Noted>, tick: u64, id: InodeId)
     match index.insert(at, Noted { tick, id }) {
         Ok(()) => {}
         Err(_) => unreachable!(),
+    }
+}
+
+/// Puts an entry for a record that was started, where there is room.
+pub fn note_start(index: &mut Vec<Noted>, started: bool, tick: u64, id: InodeId)
+    requires rising { IsRising index.old.items }
+    requires room { vec_len index.old < vec_capacity index.old }
+    ensures noted { index.new.items ≡ cond started (noted tick id index.old.items) index.old.items }
+    ensures rising { IsRising index.new.items }
+    ensures len { vec_len index.new ≤ vec_len index.old + 1 }
+    ensures capacity { vec_capacity index.new ≡ vec_capacity index.old }
+{
+    if started {
+        note(index, tick, id);
     }
 }
 

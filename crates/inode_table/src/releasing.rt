@@ -1,18 +1,18 @@
 //! Rows that no list names are removed, with all that only they name.
-ghost use Rattle.std.specs.Prelude.{◌≡◌, ℕ, ◌+◌, ◌^◌, ◌<◌, ◌≤◌, List, [], ◌++◌, length, slice_get, IsOk, IfOk, OnErr, vec_len, vec_capacity};
+ghost use Rattle.std.specs.Prelude.{◌≡◌, ℕ, ◌+◌, ◌^◌, ◌<◌, ◌≤◌, List, [], ◌++◌, length, slice_get, IsOk, IsSome, IfOk, OnErr, vec_len, vec_capacity};
 ghost use Rattle.hs_types.specs.declared.ids.BlockId.{BlockId};
 ghost use Rattle.file_changes.specs.History.{blocks_at};
 ghost use Rattle.dir_changes.specs.History.{ids_of};
 ghost use Rattle.dir_changes.specs.Counts as counts;
 ghost use Rattle.dir_changes.specs.Counts.{deleted_ids};
 ghost use Rattle.inode_table.specs.Names.{named_in};
-ghost use Rattle.inode_table.specs.Numbered.{at_place, history_of};
+ghost use Rattle.inode_table.specs.Numbered.{row_of, at_place, history_of};
 ghost use Rattle.inode_table.specs.RowHistory.{File};
-ghost use Rattle.inode_table.specs.Kept.{told};
+ghost use Rattle.inode_table.specs.Kept.{told, rows_in, KeepsRoom};
 ghost use Rattle.inode_table.specs.Totals.{block_count, weight};
 ghost use Rattle.inode_table.specs.Released.{blocks_below, blocks_in, Releasing};
 ghost use Rattle.inode_table.specs.Slots.{Slots, table_in, named_rows, AreListed, AreListedBut};
-ghost use Rattle.inode_table.specs.Lessened.{is_last, is_unnamed, lessen_at, lessen_all, ended, ended_at, deleted_of, TakenAt, Steady, HaveGone};
+ghost use Rattle.inode_table.specs.Lessened.{is_last, is_unnamed, lessen_at, lessen_all, ended, ended_at, deleted_of, TakenAt, StaysOrGoes, Steady, HaveGone};
 
 use crate::freed::Freed;
 use crate::row::{Row, Rows};
@@ -271,6 +271,8 @@ fn release_one(
     requires listed { AreListedBut id rows.old.items unnamed.old.items }
     ensures one { result ≤ 1 }
     ensures gone { (n : ℕ) (old : Slots) (waited : List BlockId) → HaveGone n old rows.old.items waited waiting.old.items → HaveGone (n + result) old rows.new.items waited waiting.new.items }
+    ensures left { (old : Slots) → StaysOrGoes old rows.old.items → StaysOrGoes old rows.new.items }
+    ensures uncounted { blocks.new ≤ blocks.old }
     ensures steady { Steady rows.new.items (vec_len unnamed.new) (vec_capacity unnamed.new) (vec_len waiting.new) (vec_capacity waiting.new) blocks.new }
     ensures listed { AreListed rows.new.items unnamed.new.items }
     ensures fewer { vec_len unnamed.new + named_rows rows.new.items ≤ vec_len unnamed.old + named_rows rows.old.items }
@@ -299,6 +301,8 @@ fn release_all(
     requires steady { Steady rows.old.items (vec_len unnamed.old) (vec_capacity unnamed.old) (vec_len waiting.old) (vec_capacity waiting.old) blocks.old }
     requires listed { AreListed rows.old.items unnamed.old.items }
     ensures gone { HaveGone result rows.old.items rows.new.items waiting.old.items waiting.new.items }
+    ensures left { StaysOrGoes rows.old.items rows.new.items }
+    ensures uncounted { blocks.new ≤ blocks.old }
     ensures steady { Steady rows.new.items (vec_len unnamed.new) (vec_capacity unnamed.new) (vec_len waiting.new) (vec_capacity waiting.new) blocks.new }
     ensures listed { AreListed rows.new.items unnamed.new.items }
     ensures empty { unnamed.new.items ≡ [] }
@@ -331,7 +335,8 @@ fn hand_out(waiting: &mut Vec<BlockId>) -> List<BlockId>
 
 impl Table {
     /// Removes all rows that no list names, in turn, with the blocks of their states, and hands out these blocks and those that
-    /// wait since a merge. It wants memory only where none was made beforehand.
+    /// wait since a merge. It wants memory only where none was made beforehand. Rows that are left keep what was made for them; the room
+    /// for blocks goes with the blocks that are handed out.
     pub fn release(&mut self) -> Result<Freed, NoMemory>
         ensures ok { IfOk result (λ freed. Releasing (told self.old) freed (told self.new)) }
         ensures err { OnErr result (told self.new ≡ told self.old) }
@@ -339,6 +344,10 @@ impl Table {
         ensures slots { self.new.room.slots ≡ self.old.room.slots }
         ensures index { self.new.room.index ≡ self.old.room.index }
         ensures stack { self.old.room.stack ≤ self.new.room.stack }
+        ensures blocks { IfOk result (λ freed. freed.blocks ≡ [] → self.old.room.blocks ≤ self.new.room.blocks) }
+        ensures there { (id : InodeId) → IsSome (row_of self.new.rows id) → rows_in (row_of self.new.rows id) ≡ rows_in (row_of self.old.rows id) }
+        ensures err_there { OnErr result (self.new.rows ≡ self.old.rows) }
+        ensures err_room { OnErr result (KeepsRoom self.old.room self.new.room) }
     {
         self.waiting.reserve(self.blocks)?;
         let rows = release_all(

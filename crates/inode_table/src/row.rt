@@ -13,9 +13,10 @@ pub enum Rows {
 /// What is kept of an inode beside its parts in the tree.
 #[derive(Debug, Drop)]
 pub struct Row {
-    /// The greatest snapshot id that was issued when the inode came under its parent.
+    /// The greatest snapshot id that had been issued when the inode was made or last renamed, also within a directory; the root's
+    /// is 0.
     pub since: SnapId,
-    /// The cover that it had just before; 0 where it was new.
+    /// The cover that it had just before that rename; 0 where it was never renamed.
     pub carry: SnapId,
     /// How many entries name it, in the current lists and the deleted lists of all directories.
     pub names: u32,

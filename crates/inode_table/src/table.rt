@@ -1,11 +1,10 @@
 //! The rows of a namenode, by the ids of their inodes.
-ghost use Rattle.std.specs.Prelude.{◌≡◌, ◌≢◌, ◌+◌, ◌≤◌, List, [], IsSome, IfOk, max, slice_set, vec_len, vec_capacity};
+ghost use Rattle.std.specs.Prelude.{◌≡◌, ◌≢◌, ◌+◌, ◌≤◌, List, [], IsSome, IfOk, slice_set, vec_len, vec_capacity};
 ghost use Rattle.std.specs.Option.{option_copied, option_map};
 ghost use Rattle.hs_types.specs.declared.ids.InodeId.{InodeId};
 ghost use Rattle.hs_types.specs.declared.name.Spot.{Spot};
 ghost use Rattle.inode_table.specs.Kept.{told};
-ghost use Rattle.inode_table.specs.Numbered.{row_of, at_place, marks_in, last_in, with_marks};
-ghost use Rattle.inode_table.specs.Marks.{marked, cover};
+ghost use Rattle.inode_table.specs.Numbered.{row_of, at_place, with_marks};
 ghost use Rattle.inode_table.specs.Slots.{table_in, AreCounted, AreListed};
 ghost use Rattle.inode_table.specs.Start.{first_table};
 ghost use Rattle.inode_table.specs.Tabled.{marked_row};
@@ -14,7 +13,6 @@ use crate::noted::Noted;
 use crate::row::{Row, Rows};
 use dir_changes::DirRows;
 use hs_types::{BlockId, InodeId, Mode, Name, NameText, NoMemory, SnapId, Spot};
-use snapshot_manager::Snaps;
 use std::alloc::Global;
 use std::marker::Model;
 
@@ -142,37 +140,4 @@ fn mark(slot: &mut Option<Row>, since: SnapId, carry: SnapId)
         row.since = since;
         row.carry = carry;
     }
-}
-
-/// The number after one row of the walk.
-fn step(table: &Table, snaps: &Snaps, number: u64, id: InodeId) -> u64
-    ensures { result ≡ marked (marks_in table.now.rows id) (max number (last_in snaps.now id)) }
-{
-    let last = match snaps.last_of(id) {
-        Some(last) => last.0,
-        None => 0,
-    };
-    let most = if last < number { number } else { last };
-    match table.row(id) {
-        Some(row) => {
-            if row.since.0 < most {
-                most
-            } else {
-                row.carry.0
-            }
-        }
-        None => most,
-    }
-}
-
-/// The cover of the last inode of a chain, which goes from the root down: the number that a record must have so that every live
-/// snapshot that has the inode reads it as it is now. 0 is none. It takes no memory.
-pub fn cover(table: &Table, snaps: &Snaps, chain: &[InodeId]) -> SnapId
-    ensures { result.0 ≡ cover (last_in snaps.now) (marks_in table.now.rows) chain.now }
-{
-    let mut number = 0;
-    for id in chain {
-        number = step(table, snaps, number, *id);
-    }
-    SnapId(number)
 }

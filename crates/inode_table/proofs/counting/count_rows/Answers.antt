@@ -1,4 +1,4 @@
-use Rattle.std.proofs.Common.{◌≡◌, ◌+◌, ◌<◌, length, ap, sym, ◌∙◌, arith}
+use Rattle.std.proofs.Common.{◌≡◌, length, ap, ◌∙◌, arith}
 use Rattle.inode_table.specs.Slots.{table_in}
 use Rattle.inode_table.specs.Totals.{total, records_in, entries_of}
 use Rattle.inode_table.proofs.Placing.{total-one}

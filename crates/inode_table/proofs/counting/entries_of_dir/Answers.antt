@@ -1,4 +1,4 @@
-use Rattle.std.proofs.Common.{◌≡◌, ◌+◌, ◌<◌, suc, length, add-one, sym, subst, ap, ◌∙◌, arith}
+use Rattle.std.proofs.Common.{◌≡◌, ◌+◌, ◌<◌, length, add-one, sym, subst, ap, ◌∙◌, arith}
 use Rattle.inode_table.specs.Places.{entries_at}
 use Rattle.inode_table.proofs.Summing.{entries_from, entries-step, entries-all}
 use Rattle.inode_table.proofs.counting.entries_of_dir.Goals as goal

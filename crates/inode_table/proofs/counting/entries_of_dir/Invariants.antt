@@ -1,4 +1,4 @@
-use Rattle.std.proofs.Common.{◌≡◌, ◌+◌, ◌<◌, ◌^◌, drop}
+use Rattle.std.proofs.Common.{◌≡◌, ◌+◌, drop}
 use Rattle.dir_changes.specs.Counts.{list_entries, created_in, deleted_in}
 use Rattle.inode_table.proofs.counting.entries_of_dir.Given as goal
 

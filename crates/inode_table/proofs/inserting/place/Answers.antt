@@ -1,4 +1,4 @@
-use Rattle.std.proofs.Common.{◌≡◌, Some, ◌∷◌, [], ◌++◌, length, sym, ap, ◌∙◌, arith}
+use Rattle.std.proofs.Common.{◌≡◌, length, ap, ◌∙◌, arith}
 use Rattle.std.specs.FinMap.Entries.{put}
 use Rattle.inode_table.specs.Numbered.{numbered, table_of, state_of, at_place}
 use Rattle.inode_table.specs.RowHistory.{id_order}

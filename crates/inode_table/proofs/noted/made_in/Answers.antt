@@ -1,4 +1,4 @@
-use Rattle.std.proofs.Common.{◌≡◌, ◌-◌, sym, ap, ◌∙◌, refl, arith}
+use Rattle.std.proofs.Common.{◌-◌, sym, ap, ◌∙◌, refl, arith}
 use Rattle.inode_table.specs.Indexed.{ids_there}
 use Rattle.inode_table.specs.Slots.{table_in}
 use Rattle.inode_table.proofs.Noting.{between-cut}

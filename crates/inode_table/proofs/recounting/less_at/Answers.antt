@@ -1,4 +1,4 @@
-use Rattle.std.proofs.Common.{◌-◌, set, sym, ap, ◌∙◌, arith}
+use Rattle.std.proofs.Common.{◌-◌, set, ap, ◌∙◌, arith}
 use Rattle.std.specs.Option.{option_map}
 use Rattle.inode_table.specs.Numbered.{with_names}
 use Rattle.inode_table.proofs.Placing.{place-some, slot-read}

@@ -1,5 +1,4 @@
 use Rattle.std.proofs.Common.{◌≡◌, ◌+◌, ◌≤◌, ◌++◌, drop, vec_len, vec_capacity}
-use Rattle.dir_changes.specs.History.{ids_of}
 use Rattle.inode_table.specs.Slots.{named_rows}
 use Rattle.inode_table.specs.Lessened.{lessen_all, ended}
 use Rattle.inode_table.proofs.releasing.name_all_less.Given as goal

@@ -1,4 +1,4 @@
-use Rattle.std.proofs.Common.{◌≡◌, ◌+◌, ◌∙◌, drop, slice_get, arith}
+use Rattle.std.proofs.Common.{◌+◌, ◌∙◌, drop, slice_get}
 use Rattle.dir_changes.specs.History.{ids_of}
 use Rattle.dir_changes.specs.Counts.{deleted_ids}
 use Rattle.inode_table.specs.Lessened.{deleted_of}

@@ -1,4 +1,4 @@
-use Rattle.std.proofs.Common.{◌≡◌, ◌++◌, refl, sym, ap, ◌∙◌, append_assoc, List}
+use Rattle.std.proofs.Common.{◌++◌, sym, ap, ◌∙◌, append_assoc, List}
 use Rattle.hs_types.specs.declared.ids.InodeId.{InodeId}
 use Rattle.dir_changes.specs.Entries.{Entries}
 use Rattle.dir_changes.specs.History.{ids_of}

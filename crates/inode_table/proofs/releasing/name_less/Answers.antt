@@ -1,7 +1,5 @@
-use Rattle.std.proofs.Common.{◌≡◌, ap, sym, ◌∙◌, true, false, arith}
-use Rattle.inode_table.specs.Numbered.{at_place}
+use Rattle.std.proofs.Common.{ap, sym, ◌∙◌, arith}
 use Rattle.inode_table.specs.Slots.{named_rows}
-use Rattle.inode_table.specs.Lessened.{is_last}
 use Rattle.inode_table.proofs.Places.{named-ended, named-not_ended}
 use Rattle.inode_table.proofs.releasing.name_less.Goals as goal
 

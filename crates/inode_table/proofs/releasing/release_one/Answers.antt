@@ -1,4 +1,4 @@
-use Rattle.std.proofs.Common.{◌≡◌, ℕ, ◌+◌, ◌++◌, List, None, set, length, ap, sym, subst, ◌∙◌, length-append, length-set, arith}
+use Rattle.std.proofs.Common.{◌+◌, ◌++◌, List, None, set, length, ap, sym, subst, ◌∙◌, length-append, length-set, arith}
 use Rattle.hs_types.specs.declared.ids.BlockId.{BlockId}
 use Rattle.hs_types.specs.declared.ids.InodeId.{InodeId}
 use Rattle.inode_table.specs.Names.{named_in}
@@ -6,8 +6,9 @@ use Rattle.inode_table.specs.Numbered.{history_of}
 use Rattle.inode_table.specs.Totals.{blocks_named, weight}
 use Rattle.inode_table.specs.Released.{blocks_in}
 use Rattle.inode_table.specs.Slots.{Slots, table_in, named_rows, AreCounted, AreListed}
-use Rattle.inode_table.specs.Lessened.{lessen_all, ended, HaveGone}
+use Rattle.inode_table.specs.Lessened.{lessen_all, ended, StaysOrGoes, HaveGone}
 use Rattle.inode_table.proofs.Lessening.{named-emptied, named-all-less, blocks-emptied, gone-more, steady-gone, listed-gone, length-all-less, weight-all-less, weight-emptied}
+use Rattle.inode_table.proofs.Taking.{stays-gone}
 use Rattle.inode_table.proofs.releasing.release_one.Goals as goal
 
 pub release_row-requires-clause-stack : goal.release_row-requires-clause-stack
@@ -96,3 +97,9 @@ returns-in-Some-clause-weight c =
     let same = weight-all-less ids (set rows c.args.id.0 None) in
     let less = weight-emptied rows c.args.id c.in-Some.row taken.1 in
     omega (arith, are, same, less)
+
+pub returns-in-Some-clause-left : goal.returns-in-Some-clause-left
+returns-in-Some-clause-left c = λ old stays.
+    let taken = c.in-Some.ensures.taken in
+    let ids = named_in (history_of c.in-Some.row.rows) in
+    subst (StaysOrGoes old) (sym (c.release_row.ensures.rows ∙ ap (lessen_all ids) taken.0)) (stays-gone old c.args.rows.now.items c.args.id ids stays)

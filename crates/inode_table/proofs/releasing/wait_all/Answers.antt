@@ -1,4 +1,4 @@
-use Rattle.std.proofs.Common.{◌≡◌, ◌-◌, length, ap, ◌∙◌, length-append, arith}
+use Rattle.std.proofs.Common.{◌-◌, length, ap, ◌∙◌, length-append, arith}
 use Rattle.file_changes.specs.History.{FileHistory}
 use Rattle.inode_table.specs.Totals.{blocks_saved}
 use Rattle.inode_table.proofs.Lessening.{only-few}

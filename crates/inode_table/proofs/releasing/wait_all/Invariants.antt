@@ -1,4 +1,4 @@
-use Rattle.std.proofs.Common.{◌≡◌, ℕ, ◌+◌, ◌≤◌, ◌++◌, length, vec_len, vec_capacity}
+use Rattle.std.proofs.Common.{◌≡◌, ◌+◌, ◌≤◌, ◌++◌, length, vec_len, vec_capacity}
 use Rattle.inode_table.specs.RowHistory.{File}
 use Rattle.inode_table.specs.Totals.{block_count}
 use Rattle.inode_table.specs.Released.{blocks_below}

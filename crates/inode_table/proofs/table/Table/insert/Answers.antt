@@ -1,6 +1,6 @@
-use Rattle.std.proofs.Common.{◌≡◌, ◌+◌, ◌<◌, ◌^◌, Some, List, [], ◌∷◌, ◌++◌, sym, ap, subst, ◌∙◌, arith}
+use Rattle.std.proofs.Common.{◌<◌, ◌^◌, Some, [], ◌∷◌, ◌++◌, sym, ap, subst, ◌∙◌, arith}
 use Rattle.inode_table.specs.Kept.{told, rows_in, IsBare}
-use Rattle.inode_table.specs.Numbered.{row_of, at_place, state_of, history_of}
+use Rattle.inode_table.specs.Numbered.{row_of, at_place, state_of}
 use Rattle.inode_table.specs.Slots.{table_in, AreCounted, AreListed}
 use Rattle.inode_table.specs.Totals.{weight, block_count, blocks_named}
 use Rattle.inode_table.proofs.Numbers.{found}

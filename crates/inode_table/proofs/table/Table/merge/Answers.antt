@@ -1,16 +1,16 @@
-use Rattle.std.proofs.Common.{◌≡◌, ◌+◌, ◌-◌, ◌++◌, List, Option, Some, length, ap, sym, subst, ◌∙◌, length-append, vec_len, vec_capacity, arith}
+use Rattle.std.proofs.Common.{◌≡◌, ◌+◌, ◌-◌, ◌++◌, List, Option, length, ap, sym, subst, ◌∙◌, length-append, vec_len, vec_capacity, arith}
 use Rattle.hs_types.specs.declared.ids.InodeId.{InodeId}
 use Rattle.inode_table.specs.declared.row.Row.{Row}
-use Rattle.inode_table.specs.Numbered.{row_of, at_place, history_of}
+use Rattle.inode_table.specs.Numbered.{numbered, row_of, at_place}
 use Rattle.inode_table.specs.Kept.{TableRoom, TableValue, told, rows_in}
 use Rattle.inode_table.specs.Totals.{blocks_named, weight}
-use Rattle.inode_table.specs.Slots.{Slots, table_in, named_rows, AreCounted, AreListed}
+use Rattle.inode_table.specs.Slots.{Slots, table_in, AreCounted, AreListed}
 use Rattle.inode_table.specs.Lessened.{lessen_all, ended}
-use Rattle.inode_table.specs.Merged.{merged, ids_dropped, ids_dropped_at, LeavesRoom}
+use Rattle.inode_table.specs.Merged.{merged, ids_dropped_at, LeavesRow, LeavesRoom}
 use Rattle.inode_table.specs.Dropping.{HasRecord}
 use Rattle.inode_table.proofs.Numbers.{found}
 use Rattle.inode_table.proofs.Lessening.{counted-all-less, listed-all-less, blocks-all-less, weight-all-less, length-all-less}
-use Rattle.inode_table.proofs.Taking.{leaves, rows-all-less, ended-few, merged-told}
+use Rattle.inode_table.proofs.Taking.{leaves, leaves-row, rows-all-less, ended-few, merged-told}
 use Rattle.inode_table.proofs.table.Table.merge.Goals as goal
 
 pub drop_record-dropped-requires : goal.drop_record-dropped-requires
@@ -76,6 +76,18 @@ returns-clause-merged c =
     merged-told rows after c.name_all_less.new.rows.items c.args.id c.args.i c.requires.row c.drop_record-dropped.result c.self.inside.index.items _ _ c.self.inside.waiting.items c.wait.new.waiting.items at l are
     (c.wait.ensures.blocks ∙ ap (λ bs. c.self.inside.waiting.items ++ bs) c.items-2.ensures) (ap (λ n. n - 1) long)
     ∙ ap (λ (v : TableValue). merged c.args.id c.args.i (told v)) c.self.view_is
+
+pub returns-clause-here : goal.returns-clause-here
+returns-clause-here c =
+    let rows = c.self.inside.rows.items in
+    let after = c.drop_record-dropped.new.rows.items in
+    let id = c.args.id in
+    let at = sym (found id rows) ∙ ap (λ (v : TableValue). row_of v.rows id) c.self.view_is ∙ c.requires.there in
+    let left = leaves-row rows after id c.args.i c.requires.row c.drop_record-dropped.result c.items.result.now at c.drop_record-dropped.ensures.dropped in
+    subst (λ (v : TableValue). LeavesRow (rows_in (row_of v.rows id)) (rows_in (row_of (numbered 0 c.name_all_less.new.rows.items) id))) c.self.view_is
+    (subst (λ (o : Option Row). LeavesRow (rows_in o) (rows_in (row_of (numbered 0 c.name_all_less.new.rows.items) id))) (sym (found id rows))
+    (subst (λ (o : Option Row). LeavesRow (rows_in (at_place rows id)) (rows_in o)) (sym (found id c.name_all_less.new.rows.items))
+    (subst (λ (s : Slots). LeavesRow (rows_in (at_place rows id)) (rows_in (at_place s id))) (sym c.name_all_less.ensures.rows) left)))
 
 pub returns-clause-there : goal.returns-clause-there
 returns-clause-there c = λ other ne.

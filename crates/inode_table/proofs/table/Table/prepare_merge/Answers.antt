@@ -1,13 +1,13 @@
-use Rattle.std.proofs.Common.{◌≡◌, [], List, Option, length, ap, sym, subst, ◌∙◌, arith}
+use Rattle.std.proofs.Common.{false, [], List, ap, sym, subst, ◌∙◌, arith}
 use Rattle.std.specs.List.{Contains}
 use Rattle.hs_types.specs.declared.ids.InodeId.{InodeId}
-use Rattle.inode_table.specs.declared.row.Row.{Row}
 use Rattle.inode_table.specs.Kept.{TableValue}
 use Rattle.inode_table.specs.Merged.{KeepsRow, IsRowMergeable}
 use Rattle.inode_table.specs.Numbered.{numbered, row_of, at_place}
+use Rattle.inode_table.specs.Prepared.{IsPreparedRow}
 use Rattle.inode_table.specs.Totals.{blocks_named, weight}
 use Rattle.inode_table.proofs.Numbers.{found}
-use Rattle.inode_table.proofs.Taking.{counted-same, listed-same, named-same, on_ok}
+use Rattle.inode_table.proofs.Taking.{counted-same, listed-same, named-same, keeps-found, on_ok}
 use Rattle.inode_table.proofs.table.Table.prepare_merge.Goals as goal
 
 pub invariant_of-self-2 : goal.invariant_of-self-2
@@ -28,17 +28,14 @@ invariant_of-self-2 c =
     }
 
 pub returns-clause-rows_kept : goal.returns-clause-rows_kept
-returns-clause-rows_kept c = λ id.
-    let old = c.self.inside.rows.items in
+returns-clause-rows_kept c =
     let new = c.prepare_rows.new.rows.items in
-    subst (λ (v : TableValue). KeepsRow (row_of v.rows id) (row_of (numbered 0 new) id)) c.self.view_is
-    (subst (λ (o : Option Row). KeepsRow o (row_of (numbered 0 new) id)) (sym (found id old))
-    (subst (λ (o : Option Row). KeepsRow (at_place old id) o) (sym (found id new)) (c.prepare_rows.ensures.kept id)))
+    subst (λ (v : TableValue). (id : InodeId) → KeepsRow (row_of v.rows id) (row_of (numbered 0 new) id)) c.self.view_is (keeps-found c.self.inside.rows.items new c.prepare_rows.ensures.kept)
 
 pub returns-clause-rows : goal.returns-clause-rows
 returns-clause-rows c =
     let new = c.prepare_rows.new.rows.items in
     on_ok c.prepare_rows.result
-    (λ (ready : (id : InodeId) → Contains c.items.result.now id → IsRowMergeable (at_place new id)). λ id within.
-    subst IsRowMergeable (sym (found id new)) (ready id (subst (λ (xs : List InodeId). Contains xs id) (sym c.items.ensures) within)))
+    (λ (ready : (id : InodeId) → Contains c.items.result.now id → IsPreparedRow false (at_place new id)). λ id within.
+    subst IsRowMergeable (sym (found id new)) (ready id (subst (λ (xs : List InodeId). Contains xs id) (sym c.items.ensures) within)).merge)
     c.prepare_rows.ensures.ready

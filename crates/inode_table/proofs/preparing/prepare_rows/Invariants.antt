@@ -1,9 +1,10 @@
 use Rattle.std.proofs.Common.{◌≡◌, ℕ, ◌<◌, get_or, vec_len, vec_capacity}
 use Rattle.hs_types.specs.declared.ids.InodeId.{InodeId}
-use Rattle.inode_table.specs.Merged.{KeepsRow, IsRowMergeable}
+use Rattle.inode_table.specs.Merged.{KeepsRow}
 use Rattle.inode_table.specs.Numbered.{at_place}
+use Rattle.inode_table.specs.Prepared.{IsPreparedRow}
 use Rattle.inode_table.specs.Slots.{table_in}
-use Rattle.inode_table.proofs.merging.prepare_rows.Given as goal
+use Rattle.inode_table.proofs.preparing.prepare_rows.Given as goal
 
 abbrev pub invariant-loop-id : goal.invariant-loop-id
 invariant-loop-id l = record {
@@ -11,5 +12,5 @@ invariant-loop-id l = record {
   len : vec_len l.rows ≡ vec_len l.initial.rows;
   capacity : vec_capacity l.rows ≡ vec_capacity l.initial.rows;
   kept : (id : InodeId) → KeepsRow (at_place l.initial.rows.items id) (at_place l.rows.items id);
-  ready : (k : ℕ) → k < l.id-index → (d : InodeId) → IsRowMergeable (at_place l.rows.items (get_or l.ids k d));
+  ready : (k : ℕ) → k < l.id-index → (d : InodeId) → IsPreparedRow l.changes (at_place l.rows.items (get_or l.ids k d));
 }
