@@ -1,0 +1,5 @@
+use Rattle.table_laws.proofs.RecordFound.{same-or-found}
+use Rattle.table_laws.proofs.record_laws.same_or_found.Goals as goal
+
+pub returns : goal.returns
+returns c = same-or-found
