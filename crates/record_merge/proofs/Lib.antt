@@ -1,0 +1,6 @@
+pub mod Once
+pub mod Merging
+pub mod Members
+pub mod Whole
+pub mod Freeing
+pub mod Answering
