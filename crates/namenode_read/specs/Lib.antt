@@ -1,0 +1,3 @@
+pub mod ByRows
+pub mod Places
+pub mod Told

@@ -3,13 +3,15 @@
 
 ghost use Rattle.std.specs.Prelude.{◌≡◌, ◌≢◌, ℕ, true, List, Ok, Err, MatchResult};
 ghost use Rattle.hs_plain.specs.declared.state.State.{State};
-ghost use Rattle.hs_plain.specs.Faults.{IsFaultOf};
+ghost use Rattle.hs_plain.specs.inside.Faults.{IsFaultOf};
 ghost use Rattle.hs_plain.specs.Files.{block_files};
 ghost use Rattle.hs_plain.specs.Valid.{IsSorted};
 ghost use Rattle.hs_plain.specs.Served.{is_served};
 ghost use Rattle.hs_plain.specs.Viewed.{StandsFor};
 ghost use Rattle.hs_plain.specs.Reading.{stat_reply, list_reply};
 ghost use Rattle.hs_plain.specs.Answer.{asked as plain_asked, answer_by, answer as plain_answer, is_shared};
+
+pub mod by_rows;
 
 use hs_plain::answer::{first_page, read_path, reply_of, stat_at};
 use hs_plain::resolve::items_at;

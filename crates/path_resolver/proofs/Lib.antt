@@ -1,2 +1,9 @@
+pub mod ByRows
 pub mod Copies
+pub mod Directories
 pub mod Halves
+pub mod Holds
+pub mod Live
+pub mod Over
+pub mod Under
+pub mod Ups

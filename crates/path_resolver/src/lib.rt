@@ -5,6 +5,9 @@ ghost use Rattle.std.specs.Prelude.{◌≡◌};
 ghost use Rattle.hs_plain.specs.State.{snapshot_root as plain_snapshot_root, resolve as plain_resolve};
 ghost use Rattle.hs_plain.specs.Valid.{IsSorted};
 
+pub mod above;
+pub mod asked;
+pub mod by_rows;
 pub mod search;
 
 use hs_plain::State;

@@ -1,0 +1,159 @@
+-- Snapshottable directories and their snapshots, by rows and in the plain state.
+use Rattle.std.proofs.Common.{◌≡◌, ℕ, ◌<◌, ◌≤◌, Bool, true, false, cond, not, List, [], ◌∷◌, map, filter, Option, Some, None, Ok, Err, refl, sym, ap, ◌∙◌, arith}
+use Rattle.std.specs.Prelude.{nat_lt, ◌==◌}
+use Rattle.std.specs.List.{find, filter_map, AllByRecursion}
+use Rattle.std.specs.Option.{option_map}
+use Rattle.std.specs.Cmp.{nat_eq_equiv}
+use Rattle.std.proofs.lemmas.Bool.Decides.{nat_tests}
+use Rattle.hs_types.specs.declared.ids.InodeId.{InodeId}
+use Rattle.hs_types.specs.declared.name.SnapItem.{SnapItem}
+use Rattle.hs_types.specs.declared.refusal.Refusal.TheVariants.{NotSnapshottable}
+use Rattle.hs_types.specs.declared.call.Place.{Place}
+use Rattle.hs_types.specs.declared.call.Place.TheVariants as places
+use Rattle.hs_plain.specs.declared.state.Node.{Node}
+use Rattle.hs_plain.specs.declared.state.Member.{Member}
+use Rattle.hs_plain.specs.declared.state.State.{State}
+use Rattle.hs_plain.specs.declared.state.FileBlocks.{FileBlocks}
+use Rattle.hs_plain.specs.Asked.{Asked, ◌>>=◌, refuse_if}
+use Rattle.hs_plain.specs.Tree.{Tree, path_cmp, node_at, place_of, same_inode}
+use Rattle.hs_plain.specs.State.{is_snapshottable}
+use Rattle.hs_plain.specs.Reading.{directory_there, live_directory, snap_item}
+use Rattle.hs_plain.proofs.ValidShapes.{none_some, same_some}
+use Rattle.std.specs.FinMap.Entries.{is_sorted}
+use Rattle.snapshot_manager.specs.Snapshots.{Snapshots, IsProper, IdsRise, snaps_of, snaps_in, is_after}
+use Rattle.snapshot_manager.specs.Members.{of_dir}
+use Rattle.snapshot_manager.proofs.Histories.{history_of}
+use Rattle.inode_table.specs.Joined.{told}
+use Rattle.inode_table.specs.Reads.{ReadsAs, IsNodes, Has}
+use Rattle.inode_table.specs.RowHistory.{Table, RowHistory, File, Dir, rows_at, shown, node_in}
+use Rattle.inode_table.specs.Stands.{root_id}
+use Rattle.inode_table.specs.Tabled.{Tabled}
+use Rattle.inode_table.specs.Whole.{StandsFor}
+use Rattle.namenode_read.specs.ByRows.{directory_in, live_directory_found, may_have, snapshottable_found}
+use Rattle.namenode_read.specs.Places.{IsThere}
+use Rattle.namenode_read.proofs.Stats.{AreSound, place_has, row_shows, are_sound, live_is, copy_is, copy_sorted}
+
+-- what is asked of a place for its snapshottable directory
+abbrev pub asked_directory : State FileBlocks → Place → Asked InodeId
+asked_directory state place = do
+  dir ← live_directory state place
+  there ← refuse_if (not (is_snapshottable state dir)) NotSnapshottable
+  Ok dir
+
+-- ---- snapshots one after another
+
+abbrev pub later : ℕ → List SnapItem → List SnapItem
+later n items = filter (is_after (record { 0 = n })) items
+
+abbrev numbers : List SnapItem → List ℕ
+numbers items = map (λ item. item.id.0) items
+
+-- all of them are later than what is below them
+pub all_later : (low n : ℕ) (items : List SnapItem) → n ≤ low → AllByRecursion (λ m. low < m) (numbers items) → later n items ≡ items
+all_later low n [] le all = refl
+all_later low n (item ∷ items) le all =
+    let lt : low < item.id.0 = all.0 in
+    let test : nat_lt n item.id.0 ≡ true = grind (arith, nat_tests) in
+    ap (λ b. cond b (item ∷ later n items) (later n items)) test ∙ ap (λ (rest : List SnapItem). item ∷ rest) (all_later low n items le all.1)
+
+found_after : (n : ℕ) (items : List SnapItem) (x : SnapItem) → find (is_after (record { 0 = n })) items ≡ Some x → n < x.id.0
+found_after n [] x e = absurd (none_some e)
+found_after n (item ∷ items) x e = elim (nat_lt n item.id.0) as (λ b. nat_lt n item.id.0 ≡ b → cond b (Some item) (find (is_after (record { 0 = n })) items) ≡ Some x → n < x.id.0) [
+  | true ↦ λ t g. let same : item.id.0 ≡ x.id.0 = ap (λ (i : SnapItem). i.id.0) (same_some g) in grind (arith, nat_tests)
+  | false ↦ λ _ g. found_after n items x g
+] refl e
+
+-- the first later one, and those behind it
+pub first_later : (n : ℕ) (items : List SnapItem) (x : SnapItem) → IdsRise items → find (is_after (record { 0 = n })) items ≡ Some x → later n items ≡ x ∷ later x.id.0 items
+first_later n [] x rise e = absurd (none_some e)
+first_later n (item ∷ items) x rise e = elim (nat_lt n item.id.0) as (λ b. nat_lt n item.id.0 ≡ b → cond b (Some item) (find (is_after (record { 0 = n })) items) ≡ Some x → cond b (item ∷ later n items) (later n items) ≡ x ∷ later x.id.0 (item ∷ items)) [
+  | true ↦ λ t g.
+      let same : item ≡ x = same_some g in
+      let lt : n ≤ item.id.0 = grind (arith, nat_tests) in
+      let none : nat_lt item.id.0 item.id.0 ≡ false = grind (arith, nat_tests) in
+      ap (λ (rest : List SnapItem). item ∷ rest) (all_later item.id.0 n items lt rise.0)
+      ∙ sym (ap (λ b. item ∷ cond b (item ∷ later item.id.0 items) (later item.id.0 items)) none ∙ ap (λ (rest : List SnapItem). item ∷ rest) (all_later item.id.0 item.id.0 items (omega arith) rise.0))
+      ∙ ap (λ (i : SnapItem). i ∷ later i.id.0 (item ∷ items)) same
+  | false ↦ λ f g.
+      let above : n < x.id.0 = found_after n items x g in
+      let none : nat_lt x.id.0 item.id.0 ≡ false = grind (arith, nat_tests) in
+      first_later n items x rise.1 g ∙ ap (λ (rest : List SnapItem). x ∷ rest) (sym (ap (λ b. cond b (item ∷ later x.id.0 items) (later x.id.0 items)) none))
+] refl e
+
+-- where there is no later one
+pub none_later : (n : ℕ) (items : List SnapItem) → find (is_after (record { 0 = n })) items ≡ None → later n items ≡ []
+none_later n [] e = refl
+none_later n (item ∷ items) e = elim (nat_lt n item.id.0) as (λ b. cond b (Some item) (find (is_after (record { 0 = n })) items) ≡ None → cond b (item ∷ later n items) (later n items) ≡ []) [
+  | true ↦ λ g. absurd (none_some (sym g))
+  | false ↦ λ g. none_later n items g
+] e
+
+module _ (snaps : Snapshots) (proper : IsProper snaps) (dir : InodeId) where
+  pub rises : IdsRise (snaps_in snaps dir)
+  rises = by (snaps_of snaps dir) refl
+    where
+      by : (o : Option (List SnapItem)) → snaps_of snaps dir ≡ o → IdsRise (snaps_in snaps dir)
+      by None e = rw e tt
+      by (Some items) e = rw e (history_of snaps dir items proper e).rise
+
+  -- each is later than 0
+  pub all_above : later 0 (snaps_in snaps dir) ≡ snaps_in snaps dir
+  all_above = by (snaps_of snaps dir) refl
+    where
+      above : (n : ℕ) (items : List SnapItem) → AllByRecursion (λ item. (0 < item.id.0) × (item.id.0 ≤ n)) items → AllByRecursion (λ m. 0 < m) (numbers items)
+      above n [] all = tt
+      above n (item ∷ items) all = (all.0.0, above n items all.1)
+
+      by : (o : Option (List SnapItem)) → snaps_of snaps dir ≡ o → later 0 (snaps_in snaps dir) ≡ snaps_in snaps dir
+      by None e = rw e refl
+      by (Some items) e = rw e (all_later 0 0 items (omega arith) (above snaps.issued.0 items (history_of snaps dir items proper e).in_range))
+
+-- ---- what is shown of them
+
+pub shown_snaps : (members : List (Member FileBlocks)) (dir : InodeId) → filter_map (snap_item dir) members ≡ of_dir dir (map told members)
+shown_snaps [] dir = refl
+shown_snaps (m ∷ ms) dir = by (shown_snaps ms dir) (same_inode m.directory dir) refl
+  where
+    by : filter_map (snap_item dir) ms ≡ of_dir dir (map told ms) → (b : Bool) → same_inode m.directory dir ≡ b → filter_map (snap_item dir) (m ∷ ms) ≡ of_dir dir (map told (m ∷ ms))
+    by rest true e = let flip : (dir.0 == m.directory.0) ≡ true = nat_eq_equiv.symm dir.0 m.directory.0 ∙ e in rw (e, flip) (ap (λ (items : List SnapItem). (told m).1 ∷ items) rest)
+    by rest false e = let flip : (dir.0 == m.directory.0) ≡ false = nat_eq_equiv.symm dir.0 m.directory.0 ∙ e in rw (e, flip) rest
+
+-- ---- directories
+
+directory_told : (table : Table) (s : ℕ) (sound : AreSound table) (top : InodeId) (tree : Tree FileBlocks) (sorted : is_sorted path_cmp tree ≡ true) (is : IsNodes (node_at tree)) (reads : ReadsAs (shown table s) top (node_at tree))
+    → (id : InodeId) → Has (node_at tree) id → directory_there (place_of tree id) ≡ directory_in id (rows_at table id)
+directory_told table s sound top tree sorted is reads id has =
+    ap directory_there (place_has table s sound top tree sorted is reads id has) ∙ by (rows_at table id) refl (row_shows table s sound top tree sorted is reads id has)
+  where
+    by : (o : Option RowHistory) → rows_at table id ≡ o → option_map (node_in id s) o ≡ Some has.node → directory_there (Some (has.at, has.node)) ≡ directory_in id o
+    by None e shows = absurd (none_some shows)
+    by (Some (File file)) e shows = ap (λ (n : Node FileBlocks). directory_there (Some (has.at, n))) (sym (same_some shows))
+    by (Some (Dir dir)) e shows = ap (λ (n : Node FileBlocks). directory_there (Some (has.at, n))) (sym (same_some shows))
+
+module _ (table : Tabled) (snaps : Snapshots) (state : State FileBlocks) (all : StandsFor table snaps state) where
+  live_told : (place : Place) → IsThere state place → live_directory_found table.rows place ≡ live_directory state place
+  live_told (places.Live id) there = sym (directory_told table.rows 0 (are_sound table snaps state all) root_id state.tree all.valid.sorted (live_is table snaps state all) all.stands.live id there)
+  live_told (places.Frozen id snapshot) there =
+      let m = there.member in
+      sym (ap (λ (a : Asked (Member FileBlocks)). a >>= λ member. (directory_there (place_of member.tree id) >>= λ _. Err NotSnapshottable)) there.found
+      ∙ ap (λ (a : Asked InodeId). a >>= λ _. Err NotSnapshottable)
+      (directory_told table.rows m.snapshot.0 (are_sound table snaps state all) m.directory m.tree (copy_sorted table snaps state all m there.within) (copy_is table snaps state all m there.within) (all.stands.frozen m there.within) id there.has))
+  live_told (places.SnapshotsOf dir) there = refl
+
+  may_told : (dir : InodeId) → may_have snaps dir ≡ (refuse_if (not (is_snapshottable state dir)) NotSnapshottable >>= λ _. Ok dir)
+  may_told dir = ap (λ b. cond {A = Asked InodeId} b (Ok dir) (Err NotSnapshottable)) (sym (all.snapshottable dir)) ∙ by (is_snapshottable state dir)
+    where
+      by : (b : Bool) → cond {A = Asked InodeId} b (Ok dir) (Err NotSnapshottable) ≡ (refuse_if (not b) NotSnapshottable >>= λ _. Ok dir)
+      by true = refl
+      by false = refl
+
+  -- the snapshottable directory of a place that is there
+  pub directory_found : (place : Place) → IsThere state place → snapshottable_found table.rows snaps place ≡ asked_directory state place
+  directory_found place there = ap (λ (a : Asked InodeId). a >>= may_have snaps) (live_told place there) ∙ then_may (live_directory state place)
+    where
+      then_may : (a : Asked InodeId) → (a >>= may_have snaps) ≡ (a >>= λ dir. (refuse_if (not (is_snapshottable state dir)) NotSnapshottable >>= λ _. Ok dir))
+      then_may (Ok dir) = may_told dir
+      then_may (Err why) = refl
+
+  pub snaps_shown : (dir : InodeId) → filter_map (snap_item dir) state.members ≡ snaps_in snaps dir
+  snaps_shown dir = shown_snaps state.members dir ∙ sym (all.told.tables dir)

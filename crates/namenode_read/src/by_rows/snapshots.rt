@@ -1,0 +1,114 @@
+//! Snapshottable directories and their snapshots, by rows.
+ghost use Rattle.std.specs.Prelude.{◌≡◌, ◌++◌, ◌∷◌, [], Ok, IfOk, OnOk, MatchResult};
+ghost use Rattle.hs_plain.specs.declared.state.State.{State};
+ghost use Rattle.hs_plain.specs.declared.state.FileBlocks.{FileBlocks};
+ghost use Rattle.hs_plain.specs.Reading.{snapshottable_at, snaps_reply};
+ghost use Rattle.hs_plain.specs.inside.Faults.{IsFaultOf};
+ghost use Rattle.snapshot_manager.specs.Snapshots.{snaps_in};
+ghost use Rattle.inode_table.specs.Kept.{told};
+ghost use Rattle.inode_table.specs.RowHistory.{rows_at};
+ghost use Rattle.inode_table.specs.Whole.{StandsFor};
+ghost use Rattle.namenode_read.specs.ByRows.{directory_in, live_directory_found, snapshottable_found};
+
+use crate::by_rows::place::{place_of, rows_of};
+use hs_plain::AskFault;
+use hs_types::{
+    Duplicate, InodeId, List, NoMemory, PathText, Place, Refusal, Reply, SnapId, SnapItem,
+};
+use inode_table::{Rows, Table};
+use snapshot_manager::Snaps;
+use std::alloc::Global;
+
+/// The inode, where it is a directory.
+fn directory_there(table: &Table, id: InodeId) -> Result<InodeId, Refusal>
+    ensures { result ≡ directory_in id (rows_at (told table.now).rows id) }
+{
+    match rows_of(table, id) {
+        None => Err(Refusal::NotFound),
+        Some(Rows::File(_)) => Err(Refusal::NotDir),
+        Some(Rows::Dir(_)) => Ok(id),
+    }
+}
+
+/// The directory of a place of the live tree; at another place nothing is snapshottable.
+fn live_directory(table: &Table, place: Place) -> Result<InodeId, Refusal>
+    ensures { result ≡ live_directory_found (told table.now).rows place }
+{
+    match place {
+        Place::Live(id) => directory_there(table, id),
+        Place::Frozen(id, _) => {
+            directory_there(table, id)?;
+            Err(Refusal::NotSnapshottable)
+        }
+        Place::SnapshotsOf(_) => Err(Refusal::NotSnapshottable),
+    }
+}
+
+/// The snapshottable directory at a place that is there.
+fn directory_at(table: &Table, snaps: &Snaps, place: Place) -> Result<InodeId, Refusal>
+    ensures { result ≡ snapshottable_found (told table.now).rows snaps.now place }
+{
+    let dir = live_directory(table, place)?;
+    match snaps.count_of(dir) {
+        Some(_) => Ok(dir),
+        None => Err(Refusal::NotSnapshottable),
+    }
+}
+
+/// The snapshottable directory at a place that is there, or why there is none.
+fn found_directory(table: &Table, snaps: &Snaps, place: Place) -> Result<InodeId, AskFault>
+    ensures { MatchResult result (λ dir. snapshottable_found (told table.now).rows snaps.now place ≡ Ok dir) (IsFaultOf (snapshottable_found (told table.now).rows snaps.now place)) }
+{
+    Ok(directory_at(table, snaps, place)?)
+}
+
+/// The snapshottable directory at a path.
+pub fn snapshottable_at(
+    alloc: Global,
+    table: &Table,
+    snaps: &Snaps,
+    path: &PathText,
+) -> Result<InodeId, AskFault>
+    ensures { (state : State FileBlocks) → StandsFor (told table.now) snaps.now state → MatchResult result (λ dir. snapshottable_at state path.now ≡ Ok dir) (IsFaultOf (snapshottable_at state path.now)) }
+{
+    let place = place_of(alloc, table, snaps, path)?;
+    found_directory(table, snaps, place)
+}
+
+/// Adds a copy of a snapshot as it is shown.
+fn push_copy(list: &mut Vec<SnapItem>, item: &SnapItem) -> Result<(), NoMemory>
+    ensures { OnOk result (list.new.items ≡ list.old.items ++ item.now ∷ []) }
+{
+    list.push(item.copy()?)?;
+    Ok(())
+}
+
+/// The snapshots of a directory as they are shown, in order of making.
+pub fn snapshot_list(alloc: Global, snaps: &Snaps, dir: InodeId) -> Result<List<SnapItem>, NoMemory>
+    ensures { IfOk result (λ list. list ≡ snaps_in snaps.now dir) }
+{
+    snaps.always();
+    let mut list = Vec::new(alloc);
+    let mut last = SnapId(0);
+    while let Some(item) = snaps.snap_after(dir, last) {
+        push_copy(&mut list, item)?;
+        last = item.id;
+    }
+    Ok(List::of(list))
+}
+
+/// The snapshots of the directory at a path, in order of making.
+pub fn snaps(
+    alloc: Global,
+    table: &Table,
+    snaps: &Snaps,
+    path: &PathText,
+) -> Result<Reply, AskFault>
+    ensures { (state : State FileBlocks) → StandsFor (told table.now) snaps.now state → MatchResult result (λ reply. snaps_reply state path.now ≡ Ok reply) (IsFaultOf (snaps_reply state path.now)) }
+{
+    let dir = snapshottable_at(alloc, table, snaps, path)?;
+    Ok(Reply::Snaps {
+        dir,
+        list: snapshot_list(alloc, snaps, dir)?,
+    })
+}

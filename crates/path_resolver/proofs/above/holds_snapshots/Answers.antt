@@ -1,0 +1,7 @@
+use Rattle.std.proofs.Common.{sym, ◌∙◌}
+use Rattle.inode_table.specs.Kept.{told}
+use Rattle.path_resolver.proofs.Holds.{snapshots-held}
+use Rattle.path_resolver.proofs.above.holds_snapshots.Goals as goal
+
+pub returns : goal.returns
+returns c state all path at = c.holds.ensures ∙ sym (snapshots-held (told c.args.table.now) c.args.snaps.now state all path c.args.id at)
