@@ -4,6 +4,7 @@ mod Turns
 mod Meetings
 mod Dealing
 mod Finishing
+mod Again
 pub mod Rows
 pub mod Order
 pub mod Numbers

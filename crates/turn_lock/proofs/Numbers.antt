@@ -1,7 +1,7 @@
 -- Locks with one number are one lock.
 use Rattle.std.proofs.Common.{◌≡◌, Bool, true, false, ℕ, zero, suc, ◌+◌, ◌*◌, ◌<◌, List, [], ◌∷◌, refl, ap, arith}
 use Rattle.turn_lock.specs.Seats.{Lock}
-use Rattle.turn_lock.specs.Numbers.{shifted, packed, bit, numbers_of, number_of}
+use Rattle.turn_lock.specs.Numbers.{shifted, packed, bit, numbers_of, number_of, NumberTellsLock}
 
 positive : (n m : ℕ) → 0 < shifted n m
 positive zero m = omega arith
@@ -26,7 +26,7 @@ bit_same false true e = absurd (omega (arith, e))
 bit_same false false e = refl
 
 -- no two locks have one number
-pub one_number : (a b : Lock) → number_of a ≡ number_of b → a ≡ b
+pub one_number : NumberTellsLock
 unfolding number_of
 one_number a b e =
     let s = packed_same (numbers_of a) (numbers_of b) e in

@@ -1,5 +1,5 @@
 -- A number for each lock, for a layer above that tells locks apart by number.
-use Rattle.std.specs.Prelude.{Bool, true, false, ℕ, zero, suc, ◌+◌, ◌*◌, List, [], ◌∷◌}
+use Rattle.std.specs.Prelude.{◌≡◌, Bool, true, false, ℕ, zero, suc, ◌+◌, ◌*◌, List, [], ◌∷◌}
 use Rattle.turn_lock.specs.Seats.{Lock}
 
 -- twice and one more, doubled n times
@@ -23,3 +23,9 @@ numbers_of l = l.seats ∷ l.kept.limit ∷ bit l.kept.tells ∷ l.table.words �
 -- the number of a lock, which no other has
 unfoldable pub number_of : Lock → ℕ
 number_of l = packed (numbers_of l)
+
+-- ---- a law
+
+-- two locks with one number are one lock
+abbrev pub NumberTellsLock : Type 0
+NumberTellsLock = (a b : Lock) → number_of a ≡ number_of b → a ≡ b

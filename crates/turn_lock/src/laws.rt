@@ -1,4 +1,5 @@
-//! Seats in the order of their callers: functions without a body, each for its contract.
+//! Seats in the order of their callers, and the numbers of locks: functions without a body, each for its contract.
+ghost use Rattle.turn_lock.specs.Numbers.{NumberTellsLock};
 ghost use Rattle.turn_lock.specs.Order.{InOrderFromZero, FromZeroInOrder, PartsFrom, WholeFrom, PlaceFrom, OwnCallersFrom, InOrderAreAll};
 
 /// The seats that a lock begins with are numbered on from caller 0.
@@ -34,4 +35,9 @@ pub fn callers_differ()
 /// The seats in order are all seats of the lock, so that `finish` may be called.
 pub fn seats_in_order_are_all()
     ensures { InOrderAreAll }
+{}
+
+/// Two locks with one number are one lock.
+pub fn number_tells_lock()
+    ensures { NumberTellsLock }
 {}

@@ -8,7 +8,7 @@ ghost use Rattle.turn_lock.specs.Steps.{opener, at_rest};
 
 use crate::historied::{Historied, Work};
 use crate::seat::{TurnSeat, sit, stand_up};
-use crate::steps::{give_back, meet, take, unwrap_alone, work_alone};
+use crate::steps::{give_back, meet, take, unwrap_alone, work_in_turn};
 use crate::table::{Deal, Place, Terms, Turning, Turns};
 use crate::view::View;
 use atomic_table::{Refused, Table};
@@ -91,8 +91,9 @@ impl<T: Historied> TurnLock<T> {
         copy
     }
 
-    /// Takes the turn, keeps it until every copy of the pointer is gone, and calls the work once on the value. What the
-    /// work leaves is the lock's value from then on.
+    /// Takes the turn, waits until every copy of the pointer is gone, calls the work once on the value, and gives the
+    /// turn back. While a copy stays for long, others are let in between. What the work leaves is the lock's value from
+    /// then on.
     pub fn change_alone<R: Wait, W: Work<T>>(&self, rt: &R, seat: &mut TurnSeat, work: &mut W)
         requires lock { seat.old.lock ≡ self.now }
         requires allowed { (x : T) → MayFind seat.old (T.kept x) (T.history x) → W.allows work.old x }
@@ -102,9 +103,7 @@ impl<T: Historied> TurnLock<T> {
     {
         let turns = &self.table.shared;
         let mut place = sit(&mut seat.badge);
-        let mut value = take(rt, turns, &mut place);
-        work_alone(rt, turns, &mut value, work);
-        give_back(turns, &mut place, value);
+        work_in_turn(rt, turns, &mut place, work);
         seat.badge = place.into_badge();
     }
 

@@ -12,6 +12,16 @@ use std::time::Duration;
 // How often a holder lets others run before it sleeps between two looks.
 const YIELDS: u32 = 64;
 
+// How often a holder looks whether it has the value alone, before it first lets others in. Each next time it looks twice
+// as often.
+const TRIES: u32 = 100;
+
+// And at most so often.
+const MOST_TRIES: u32 = 1_600;
+
+// How many milliseconds it waits, so that they can enter.
+const PAUSE: u64 = 1;
+
 /// Takes the pointer out of its home, and sleeps until it is there.
 pub(crate) fn take<T: Historied, R: Wait>(rt: &R, turns: &Turns<T>, place: &mut Place<T>) -> Arc<T>
     requires table { place.old.table_id ≡ turns.now.table_id }
@@ -94,23 +104,53 @@ fn try_work<T, W: Work<T>>(value: &mut Arc<T>, work: &mut W) -> bool
     }
 }
 
-/// Waits until nobody else has the value, and calls the work on it once.
-pub(crate) fn work_alone<T: Historied, W: Work<T>, R: Wait>(
+// Calls the work once where nobody else has the value within some tries, and says whether it did.
+fn work_soon<T: Historied, W: Work<T>, R: Wait>(
     rt: &R,
     turns: &Turns<T>,
     value: &mut Arc<T>,
     work: &mut W,
-)
+    tries: u32,
+) -> bool
     requires words { turns.now.table_id.words ≡ 2 }
     requires allowed { W.allows work.old (arc_value value.old) }
-    ensures { W.does work.old (arc_value value.old) work.new (arc_value value.new) }
+    ensures { MatchBool result (W.does work.old (arc_value value.old) work.new (arc_value value.new)) ((arc_value value.new ≡ arc_value value.old) × (work.new ≡ work.old)) }
 {
-    let mut tried = 0;
-    for _ in rt.forever() {
+    for tried in 0..tries {
         if try_work(value, work) {
+            return true;
+        }
+        ease(rt, turns, tried);
+    }
+    false
+}
+
+/// Takes the pointer, calls the work once on the value when nobody else has it, and gives the pointer back. Where
+/// another has the value for long, it gives the pointer back, lets others in for a while, and tries again.
+pub(crate) fn work_in_turn<T: Historied, W: Work<T>, R: Wait>(
+    rt: &R,
+    turns: &Turns<T>,
+    place: &mut Place<T>,
+    work: &mut W,
+)
+    requires table { place.old.table_id ≡ turns.now.table_id }
+    requires sized { (turns.now.table_id.words ≡ 2) × (turns.now.table_id.slots ≡ 1) }
+    requires at_rest { (place.old.me.0.live ≡ true) × (place.old.me.1 ≡ []) }
+    requires allowed { (x : T) → T.kept x ≡ place.old.me.0.kept → Finds place.old.me.0 (T.history x) → W.allows work.old x }
+    requires leaves { (x : T) (w : W) (y : T) → T.kept x ≡ place.old.me.0.kept → Finds place.old.me.0 (T.history x) → W.does work.old x w y → (T.kept y ≡ T.kept x) × MayLeave (holding place.old.me.0 (T.history x)) (T.history y) }
+    ensures table { place.new.table_id ≡ place.old.table_id }
+    ensures worked { (x : T) × (y : T) × (T.kept x ≡ place.old.me.0.kept) × Finds place.old.me.0 (T.history x) × W.does work.old x work.new y × (place.new.me ≡ (given place.old.me.0 (T.history y), [])) }
+{
+    let mut tries = TRIES;
+    for _ in rt.forever() {
+        let mut value = take(rt, turns, place);
+        let worked = work_soon(rt, turns, &mut value, work, tries);
+        give_back(turns, place, value);
+        if worked {
             return;
         }
-        tried = ease(rt, turns, tried);
+        turns.park_timeout(rt, 1, 0, Duration::from_millis(PAUSE));
+        tries = tries.saturating_mul(2).min(MOST_TRIES);
     }
     unreachable!()
 }
