@@ -1,4 +1,4 @@
-//! Tests of snapshots' tables and of change records, in a crate of their own, as in `trials`.
+//! Tests of snapshots' tables, of change records and of the table of rows, in a crate of their own, as in `trials`.
 #![tactic(auto)]
 
 #[cfg(test)]
@@ -7,3 +7,9 @@ mod dir_rows;
 mod file_rows;
 #[cfg(test)]
 mod snapshots;
+#[cfg(test)]
+mod table_fits;
+#[cfg(test)]
+mod table_print;
+#[cfg(test)]
+mod table_rows;
