@@ -8,4 +8,10 @@ pub mod Grown
 pub mod KeptCalls
 pub mod Lifted
 pub mod Refused
+pub mod RowFiles
+pub mod RowReads
 pub mod Trees
+pub mod RowTests
+pub mod Weights
+pub mod RowCalls
+pub mod Seating

@@ -1,6 +1,10 @@
+pub mod Called
 pub mod Consistent
 pub mod Counted
 pub mod Extends
 pub mod Journal
 pub mod Kept
 pub mod Made
+pub mod RowFiles
+pub mod Rows
+pub mod Seats

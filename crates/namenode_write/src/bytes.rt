@@ -30,7 +30,7 @@ use std::alloc::Global;
 use std::mem;
 
 /// Why a call of the store ends a call of the namenode.
-fn fault_of(error: StoreErr) -> AskFault
+pub(crate) fn fault_of(error: StoreErr) -> AskFault
     ensures { result ≡ plain_fault_of error }
 {
     match error {

@@ -5,5 +5,6 @@ mod bytes;
 mod freeing;
 pub mod namenode;
 mod namespace;
+mod rows;
 
 pub use namenode::Namenode;
