@@ -46,7 +46,10 @@ pub mod ValidSubtrees
 pub mod ValidTrees
 pub mod Validity
 pub mod Viewed
+pub mod ViewedAsked
 pub mod ViewedChange
+pub mod ViewedReports
+pub mod ViewedSnapshots
 pub mod Walks
 pub mod WorkedMoves
 pub mod WorkedPages

@@ -33,8 +33,7 @@ use Rattle.hs_plain.specs.State.{is_snapshottable, if_snapshottable, snapshot_ro
 use Rattle.hs_plain.specs.Pages.{page_of}
 use Rattle.hs_plain.specs.Modifying.{live_path, mkdir_at, takes_place_of, create_at, spares_children, delete_at, would_nest, may_move, rename_at, set_mode_at, file_in, append_at}
 use Rattle.hs_plain.specs.Reading.{list_reply, node_stat, list_stat, stat_at, stat_reply, file_there, file_at, page_at, found_file, read_reply, is_live, is_gone, next_file, next_reply}
-use Rattle.hs_plain.specs.Answer.{made_reply, replied, asked, is_modifying, uses_store}
-use Rattle.hs_plain.specs.Served.{is_served}
+use Rattle.hs_plain.specs.Answer.{replied, asked, is_modifying, uses_store}
 use Rattle.hs_plain.specs.Viewed.{viewed_body, viewed_node, viewed_place, viewed_tree, viewed_member, viewed}
 
 -- one test after another answers alike, where its answers do
@@ -47,7 +46,7 @@ abbrev pub mapped : {X Y : Type 0} → (X → Y) → Asked X → Asked Y
 mapped f (Ok x) = Ok (f x)
 mapped f (Err why) = Err why
 
-then-mapped : {X Y Z : Type 0} (asked : Asked X) (f : X → Asked Y) (g : X → Asked Z) (h : Y → Z) → ((x : X) → g x ≡ mapped h (f x)) → (asked >>= g) ≡ mapped h (asked >>= f)
+pub then-mapped : {X Y Z : Type 0} (asked : Asked X) (f : X → Asked Y) (g : X → Asked Z) (h : Y → Z) → ((x : X) → g x ≡ mapped h (f x)) → (asked >>= g) ≡ mapped h (asked >>= f)
 then-mapped (Ok x) f g h same = same x
 then-mapped (Err why) f g h same = refl
 
@@ -98,7 +97,7 @@ sets_mode tree path = do
   Ok path
 
 module _ {A B : Type 0} (read : A → B) where
-  is_dir_body-viewed : (body : Body A) → is_dir_body (viewed_body read body) ≡ is_dir_body body
+  pub is_dir_body-viewed : (body : Body A) → is_dir_body (viewed_body read body) ≡ is_dir_body body
   is_dir_body-viewed (File file) = refl
   is_dir_body-viewed Dir = refl
 
@@ -125,7 +124,7 @@ module _ {A B : Type 0} (read : A → B) where
   is_some-viewed (Some node) = refl
 
   -- a node, read
-  abbrev viewed_found : Asked (Node A) → Asked (Node B)
+  abbrev pub viewed_found : Asked (Node A) → Asked (Node B)
   viewed_found (Ok node) = Ok (viewed_node read node)
   viewed_found (Err why) = Err why
 
@@ -137,7 +136,7 @@ module _ {A B : Type 0} (read : A → B) where
   then-viewed (Ok u) node = refl
   then-viewed (Err why) node = refl
 
-  walk-viewed : (tree : Tree A) (path : Names) → walk (viewed_tree read tree) path ≡ viewed_found (walk tree path)
+  pub walk-viewed : (tree : Tree A) (path : Names) → walk (viewed_tree read tree) path ≡ viewed_found (walk tree path)
   walk-viewed tree path =
       ap (λ (w : Asked (Unit {0})). w >>= λ _. found (node_at (viewed_tree read tree) path)) (walks_from-viewed tree [] path)
       ∙ ap (λ (n : Asked (Node B)). walks_above tree path >>= λ _. n) (ap found (node_at-viewed tree path) ∙ found-viewed (node_at tree path))
@@ -155,7 +154,7 @@ module _ {A B : Type 0} (read : A → B) where
   snapshot_root-viewed : (state : State A) (base : Names) → snapshot_root (viewed read state) base ≡ snapshot_root state base
   snapshot_root-viewed state base = ap (if_snapshottable (viewed read state)) (node_at-viewed state.tree base) ∙ if_snapshottable-viewed state (node_at state.tree base)
 
-  abbrev viewed_named : Asked (Member A) → Asked (Member B)
+  abbrev pub viewed_named : Asked (Member A) → Asked (Member B)
   viewed_named (Ok member) = Ok (viewed_member read member)
   viewed_named (Err why) = Err why
 
@@ -167,7 +166,7 @@ module _ {A B : Type 0} (read : A → B) where
         | false ↦ member_named-viewed ms dir name
       ]
 
-  member_with-viewed : (members : List (Member A)) (snapshot : SnapId) → member_with (map (viewed_member read) members) snapshot ≡ viewed_named (member_with members snapshot)
+  pub member_with-viewed : (members : List (Member A)) (snapshot : SnapId) → member_with (map (viewed_member read) members) snapshot ≡ viewed_named (member_with members snapshot)
   member_with-viewed [] snapshot = refl
   member_with-viewed (m ∷ ms) snapshot =
       elim (m.snapshot.0 == snapshot.0) as (λ b. cond b (Ok (viewed_member read m)) (member_with (map (viewed_member read) ms) snapshot) ≡ viewed_named (cond b (Ok m) (member_with ms snapshot))) [
@@ -309,11 +308,11 @@ module _ {A B : Type 0} (read : A → B) where
 
   -- ---- snapshottable directories and snapshots at places
 
-  any-viewed : (f : Names × Node B → Bool) (g : Names × Node A → Bool) → ((place : Names × Node A) → f (viewed_place read place) ≡ g place) → (tree : Tree A) → list_any f (viewed_tree read tree) ≡ list_any g tree
+  pub any-viewed : (f : Names × Node B → Bool) (g : Names × Node A → Bool) → ((place : Names × Node A) → f (viewed_place read place) ≡ g place) → (tree : Tree A) → list_any f (viewed_tree read tree) ≡ list_any g tree
   any-viewed f g same [] = refl
   any-viewed f g same (place ∷ tree) = ap (λ b. b || list_any f (viewed_tree read tree)) (same place) ∙ ap (λ b. g place || b) (any-viewed f g same tree)
 
-  has_snapshots-viewed : (members : List (Member A)) (dir : InodeId) → list_any (λ (member : Member B). same_inode member.directory dir) (map (viewed_member read) members) ≡ list_any (λ (member : Member A). same_inode member.directory dir) members
+  pub has_snapshots-viewed : (members : List (Member A)) (dir : InodeId) → list_any (λ (member : Member B). same_inode member.directory dir) (map (viewed_member read) members) ≡ list_any (λ (member : Member A). same_inode member.directory dir) members
   has_snapshots-viewed [] dir = refl
   has_snapshots-viewed (member ∷ members) dir = ap (λ b. same_inode member.directory dir || b) (has_snapshots-viewed members dir)
 
@@ -361,17 +360,17 @@ module _ {A B : Type 0} (read : A → B) where
   -- ---- reading calls
 
   -- what is asked of the place at a path
-  at_place-viewed : (state : State A) (text : List ℕ) (f g : Place → Asked Reply) → ((place : Place) → f place ≡ g place) → (path_of text >>= λ path. (resolve (viewed read state) path >>= f)) ≡ (path_of text >>= λ path. (resolve state path >>= g))
+  pub at_place-viewed : {X : Type 0} (state : State A) (text : List ℕ) (f g : Place → Asked X) → ((place : Place) → f place ≡ g place) → (path_of text >>= λ path. (resolve (viewed read state) path >>= f)) ≡ (path_of text >>= λ path. (resolve state path >>= g))
   at_place-viewed state text f g same =
       then-same (path_of text) (λ path. resolve (viewed read state) path >>= f) (λ path. resolve state path >>= g)
       (λ path. ap (λ (place : Asked Place). place >>= f) (resolve-viewed state path) ∙ then-same (resolve state path) f g same)
 
-  list_reply-viewed : (state : State A) (text : List ℕ) (size : ℕ) → list_reply (viewed read state) text size ≡ list_reply state text size
+  pub list_reply-viewed : (state : State A) (text : List ℕ) (size : ℕ) → list_reply (viewed read state) text size ≡ list_reply state text size
   list_reply-viewed state text size =
       at_place-viewed state text (λ place. items_at (viewed read state) place >>= λ items. Ok (page_of place items None size)) (λ place. items_at state place >>= λ items. Ok (page_of place items None size))
       (λ place. ap (λ (items : Asked (List Item)). items >>= λ xs. Ok (page_of place xs None size)) (items_at-viewed state place))
 
-  snapshots_of-viewed : (members : List (Member A)) (dir : InodeId) → snapshots_of (map (viewed_member read) members) dir ≡ snapshots_of members dir
+  pub snapshots_of-viewed : (members : List (Member A)) (dir : InodeId) → snapshots_of (map (viewed_member read) members) dir ≡ snapshots_of members dir
   snapshots_of-viewed members dir = fold-map (λ n (m : Member B). n + cond (same_inode m.directory dir) 1 0) (viewed_member read) 0 members
 
   list_stat-viewed : (snapshots : ℕ) (place : Option (Names × Node A)) → list_stat snapshots (option_map (viewed_place read) place) ≡ list_stat snapshots place
@@ -421,11 +420,11 @@ module _ {A B : Type 0} (read : A → B) where
       (λ path. ap (λ (at : Asked Place). at >>= λ place. (file_at (viewed read state) place >>= λ f. Ok (place, f))) (resolve-viewed state path)
       ∙ then-mapped (resolve state path) (λ place. file_at state place >>= λ f. Ok (place, f)) (λ place. file_at (viewed read state) place >>= λ f. Ok (place, f)) viewed_at (at_place_file-viewed state))
 
-  is_live-viewed : (members : List (Member A)) (snapshot : SnapId) → is_live (map (viewed_member read) members) snapshot ≡ is_live members snapshot
+  pub is_live-viewed : (members : List (Member A)) (snapshot : SnapId) → is_live (map (viewed_member read) members) snapshot ≡ is_live members snapshot
   is_live-viewed [] snapshot = refl
   is_live-viewed (m ∷ ms) snapshot = ap (λ b. (m.snapshot.0 == snapshot.0) || b) (is_live-viewed ms snapshot)
 
-  is_gone-viewed : (state : State A) (place : Place) → is_gone (viewed read state) place ≡ is_gone state place
+  pub is_gone-viewed : (state : State A) (place : Place) → is_gone (viewed read state) place ≡ is_gone state place
   is_gone-viewed state (places.Live id) = refl
   is_gone-viewed state (places.Frozen id snapshot) = ap (λ b. not (snapshot.0 == 0) && not b) (is_live-viewed state.members snapshot)
   is_gone-viewed state (places.SnapshotsOf dir) = refl
@@ -500,28 +499,5 @@ module _ {A B : Type 0} (read : A → B) (fa : Files A) (fb : Files B) (sizes : 
       ap (λ (member : Asked (Member B)). member >>= λ m. node_stat fb m.tree (place_of m.tree id)) (member_with-viewed read state.members snapshot) ∙ frozen_stat-viewed id (member_with state.members snapshot)
   stat_at-viewed state (places.SnapshotsOf dir) = snapshots_stat-viewed read state dir
 
-  stat_reply-viewed : (state : State A) (text : List ℕ) → stat_reply fb (viewed read state) text ≡ stat_reply fa state text
+  pub stat_reply-viewed : (state : State A) (text : List ℕ) → stat_reply fb (viewed read state) text ≡ stat_reply fa state text
   stat_reply-viewed state text = at_place-viewed read state text (stat_at fb (viewed read state)) (stat_at fa state) (stat_at-viewed state)
-
-  -- the answer of a call that is served and reads no file
-  pub asked-viewed : (state : State A) (call : Call) → is_served call ≡ true → (uses_store call && not (is_modifying call)) ≡ false → asked fb (viewed read state) call ≡ asked fa state call
-  asked-viewed state (calls.Mkdir path) served no_read = ap (replied (made_reply state)) (mkdir_at-viewed read state path)
-  asked-viewed state (calls.Create path over) served no_read = ap (replied (made_reply state)) (create_at-viewed read state path over)
-  asked-viewed state (calls.Append path bytes) served no_read = ap (replied replies.Done) (append_at-viewed read state path) ∙ replied-mapped replies.Done (viewed_file read) (append_at state path)
-  asked-viewed state (calls.Delete path recursive) served no_read = ap (replied replies.Done) (delete_at-viewed read state path recursive)
-  asked-viewed state (calls.Rename old new) served no_read = ap (replied replies.Done) (rename_at-viewed read state old new)
-  asked-viewed state (calls.SetMode path mode) served no_read = ap (replied replies.Done) (set_mode_at-viewed read state path)
-  asked-viewed state (calls.Read path offset len) served no_read = absurd (cc)
-  asked-viewed state (calls.ReadNext cursor len) served no_read = absurd (cc)
-  asked-viewed state (calls.Stat path) served no_read = stat_reply-viewed state path
-  asked-viewed state (calls.List path size) served no_read = list_reply-viewed read state path size
-  asked-viewed state (calls.Allow path) served no_read = absurd (cc)
-  asked-viewed state (calls.Disallow path) served no_read = absurd (cc)
-  asked-viewed state (calls.Snap path name) served no_read = absurd (cc)
-  asked-viewed state (calls.SnapDel path name) served no_read = absurd (cc)
-  asked-viewed state (calls.SnapRen path old new) served no_read = absurd (cc)
-  asked-viewed state (calls.ListNext cursor size) served no_read = absurd (cc)
-  asked-viewed state (calls.Snaps path) served no_read = absurd (cc)
-  asked-viewed state calls.Dirs served no_read = absurd (cc)
-  asked-viewed state (calls.Report path from to size) served no_read = absurd (cc)
-  asked-viewed state (calls.ReportNext cursor size) served no_read = absurd (cc)

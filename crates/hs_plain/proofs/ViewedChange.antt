@@ -1,26 +1,33 @@
 -- A change looks at no file but for what an append makes of it, so in a state with files kept in another way it is the same.
-use Rattle.std.proofs.Common.{◌≡◌, ℕ, ◌+◌, true, false, cond, Option, Some, None, Ok, Err, is_some, List, [], ◌∷◌, map, refl, ap, sym, ◌∙◌}
+use Rattle.std.proofs.Common.{◌≡◌, ℕ, ◌+◌, true, false, cond, Option, Some, None, Ok, Err, is_some, List, [], ◌∷◌, ◌++◌, map, refl, ap, sym, ◌∙◌}
 use Rattle.std.specs.Prelude.{not}
 use Rattle.std.specs.Option.{option_map}
+use Rattle.std.specs.List.{filter}
+use Rattle.std.proofs.lemmas.List.{map-append}
 use Rattle.std.specs.declared.cmp.Ordering.TheVariants.{Less, Equal, Greater}
 use Rattle.std.specs.FinMap.Entries.{put, by_order}
 use Rattle.hs_types.specs.Names.{Names}
 use Rattle.hs_types.specs.declared.ids.InodeId.{InodeId}
+use Rattle.hs_types.specs.declared.ids.SnapId.{SnapId}
 use Rattle.hs_types.specs.declared.call.Call.{Call}
 use Rattle.hs_types.specs.declared.call.Call.TheVariants as calls
 use Rattle.hs_plain.specs.declared.state.Node.{Node}
 use Rattle.hs_plain.specs.declared.state.Body.TheVariants.{File}
+use Rattle.hs_plain.specs.declared.state.Member.{Member}
 use Rattle.hs_plain.specs.declared.state.State.{State}
 use Rattle.hs_plain.specs.Asked.{Asked}
 use Rattle.hs_plain.specs.Files.{Files}
 use Rattle.hs_plain.specs.Tree.{Tree, path_cmp, parent_of, same_path, place_of, is_under}
-use Rattle.hs_plain.specs.State.{new_dir}
+use Rattle.hs_plain.specs.State.{new_dir, is_snapshottable}
 use Rattle.hs_plain.specs.Modifying.{mkdir_at, create_at, delete_at, rename_at, set_mode_at, append_at}
+use Rattle.hs_plain.specs.Snapshotting.{allow_at, disallow_at, snap_at, snap_del_at, snap_ren_at}
 use Rattle.hs_plain.specs.Answer.{uses_store}
-use Rattle.hs_plain.specs.Change.{restamp, stamped, remode, moded, without, new_path, at_new, repath, put_all, moved, new_file, with_node, made_dir, made_file, still_in, removed, renamed, with_mode, refilled, with_file, appended, if_asked, change}
+use Rattle.hs_plain.specs.Change.{restamp, stamped, remode, moded, without, new_path, at_new, repath, put_all, moved, new_file, with_node, made_dir, made_file, still_in, removed, renamed, with_mode, refilled, with_file, appended, allowed, disallowed, new_member, snapped, is_snapshot, unsnapped, rename_member, resnapped, if_asked, change}
 use Rattle.hs_plain.specs.Served.{is_served}
-use Rattle.hs_plain.specs.Viewed.{viewed_node, viewed_place, viewed_tree, viewed}
+use Rattle.hs_plain.specs.Viewed.{viewed_node, viewed_place, viewed_tree, viewed_member, viewed}
 use Rattle.hs_plain.proofs.Viewed.{place_of-viewed, mkdir_at-viewed, create_at-viewed, delete_at-viewed, rename_at-viewed, set_mode_at-viewed, mapped, viewed_file, append_at-viewed}
+use Rattle.hs_plain.proofs.ViewedReports.{subtree-viewed}
+use Rattle.hs_plain.proofs.ViewedSnapshots.{allow_at-viewed, disallow_at-viewed, snap_at-viewed, snap_del_at-viewed, snap_ren_at-viewed}
 
 module _ {A B : Type 0} (read : A → B) where
   -- ---- trees
@@ -132,10 +139,61 @@ module _ {A B : Type 0} (read : A → B) where
       ∙ ap (with_file (viewed read state) path (viewed_node read node)) (sym longer)
       ∙ with_file-viewed state path node new
 
+  -- ---- snapshots
+
+  pub allowed-viewed : (state : State A) (id : InodeId) → allowed (viewed read state) id ≡ viewed read (allowed state id)
+  allowed-viewed state id =
+      elim (is_snapshottable state id) as (λ b. cond b (viewed read state) (record (viewed read state) { snapshottable = state.snapshottable ++ id ∷ [] }) ≡ viewed read (cond b state (record state { snapshottable = state.snapshottable ++ id ∷ [] }))) [
+        | true ↦ refl
+        | false ↦ refl
+      ]
+
+  new_member-viewed : (state : State A) (name : List ℕ) (at : Names × Node A) → new_member (viewed read state) name (viewed_place read at) ≡ viewed_member read (new_member state name at)
+  new_member-viewed state name at = ap (λ (t : Tree B). record { snapshot = record { 0 = state.next_snapshot }; directory = at.1.id; name = name; tick = state.tick + 1; tree = t }) (subtree-viewed read state.tree at.0)
+
+  pub snapped-viewed : (state : State A) (name : List ℕ) (at : Names × Node A) → snapped (viewed read state) name (viewed_place read at) ≡ viewed read (snapped state name at)
+  snapped-viewed state name at =
+      let with_members : List (Member B) → State B = λ members. record (viewed read state) { members = members; next_snapshot = state.next_snapshot + 1 } in
+      ap (λ (member : Member B). with_members (map (viewed_member read) state.members ++ member ∷ [])) (new_member-viewed state name at)
+      ∙ ap with_members (sym (map-append (viewed_member read) state.members (new_member state name at ∷ [])))
+
+  members_left-viewed : (members : List (Member A)) (id : SnapId) → filter (λ member. not (is_snapshot id member)) (map (viewed_member read) members) ≡ map (viewed_member read) (filter (λ member. not (is_snapshot id member)) members)
+  members_left-viewed [] id = refl
+  members_left-viewed (m ∷ ms) id =
+      let left = filter (λ member. not (is_snapshot id member)) ms in
+      let viewed_left = filter (λ member. not (is_snapshot id member)) (map (viewed_member read) ms) in
+      elim (not (is_snapshot id m)) as (λ b. cond b (viewed_member read m ∷ viewed_left) viewed_left ≡ map (viewed_member read) (cond b (m ∷ left) left)) [
+        | true ↦ ap (λ (rest : List (Member B)). viewed_member read m ∷ rest) (members_left-viewed ms id)
+        | false ↦ members_left-viewed ms id
+      ]
+
+  pub unsnapped-viewed : (state : State A) (id : SnapId) → unsnapped (viewed read state) id ≡ viewed read (unsnapped state id)
+  unsnapped-viewed state id = ap (λ (members : List (Member B)). record (viewed read state) { members = members }) (members_left-viewed state.members id)
+
+  rename_member-viewed : (id : SnapId) (name : List ℕ) (m : Member A) → rename_member id name (viewed_member read m) ≡ viewed_member read (rename_member id name m)
+  rename_member-viewed id name m =
+      elim (is_snapshot id m) as (λ b. cond b (record (viewed_member read m) { name = name }) (viewed_member read m) ≡ viewed_member read (cond b (record m { name = name }) m)) [ true ↦ refl | false ↦ refl ]
+
+  members_renamed-viewed : (id : SnapId) (name : List ℕ) (members : List (Member A)) → map (rename_member id name) (map (viewed_member read) members) ≡ map (viewed_member read) (map (rename_member id name) members)
+  members_renamed-viewed id name [] = refl
+  members_renamed-viewed id name (m ∷ ms) =
+      ap (λ (member : Member B). member ∷ map (rename_member id name) (map (viewed_member read) ms)) (rename_member-viewed id name m)
+      ∙ ap (λ (rest : List (Member B)). viewed_member read (rename_member id name m) ∷ rest) (members_renamed-viewed id name ms)
+
+  pub resnapped-viewed : (state : State A) (name : List ℕ) (id : SnapId) → resnapped (viewed read state) name id ≡ viewed read (resnapped state name id)
+  resnapped-viewed state name id = ap (λ (members : List (Member B)). record (viewed read state) { members = members }) (members_renamed-viewed id name state.members)
+
+  -- ---- changes
+
   -- a change that is made where it isn't refused
   if_asked-viewed : {X : Type 0} (f : X → State A) (g : X → State B) (state : State A) → ((x : X) → g x ≡ viewed read (f x)) → (asked : Asked X) → if_asked g (viewed read state) asked ≡ viewed read (if_asked f state asked)
   if_asked-viewed f g state same (Ok x) = same x
   if_asked-viewed f g state same (Err why) = refl
+
+  -- and whose tests give something that is read
+  if_mapped-viewed : {X Y : Type 0} (h : X → Y) (f : X → State A) (g : Y → State B) (state : State A) → ((x : X) → g (h x) ≡ viewed read (f x)) → (asked : Asked X) → if_asked g (viewed read state) (mapped h asked) ≡ viewed read (if_asked f state asked)
+  if_mapped-viewed h f g state same (Ok x) = same x
+  if_mapped-viewed h f g state same (Err why) = refl
 
 -- ---- calls
 
@@ -145,37 +203,49 @@ module _ {A B : Type 0} (read : A → B) (fa : Files A) (fb : Files B) (empty : 
       ap (λ (file : B). with_node (viewed read state) path (record { id = record { 0 = state.next_inode }; mode = 420; stamp = state.tick + 1; body = File file })) (sym empty)
       ∙ with_node-viewed read state path (new_file fa state.next_inode (state.tick + 1))
 
-  -- what is served and uses no store
-  pub change-viewed : (state : State A) (call : Call) → is_served call ≡ true → uses_store call ≡ false → change fb (viewed read state) call ≡ viewed read (change fa state call)
-  change-viewed state (calls.Mkdir path) served no_store =
+  -- what uses no store
+  pub any_storeless-viewed : (state : State A) (call : Call) → uses_store call ≡ false → change fb (viewed read state) call ≡ viewed read (change fa state call)
+  any_storeless-viewed state (calls.Mkdir path) no_store =
       ap (if_asked (made_dir (viewed read state)) (viewed read state)) (mkdir_at-viewed read state path) ∙ if_asked-viewed read (made_dir state) (made_dir (viewed read state)) state (made_dir-viewed read state) (mkdir_at state path)
-  change-viewed state (calls.Create path over) served no_store =
+  any_storeless-viewed state (calls.Create path over) no_store =
       ap (if_asked (made_file fb (viewed read state)) (viewed read state)) (create_at-viewed read state path over)
       ∙ if_asked-viewed read (made_file fa state) (made_file fb (viewed read state)) state (made_file-viewed state) (create_at state path over)
-  change-viewed state (calls.Append path bytes) served no_store = absurd (cc)
-  change-viewed state (calls.Delete path recursive) served no_store =
+  any_storeless-viewed state (calls.Append path bytes) no_store = absurd (cc)
+  any_storeless-viewed state (calls.Delete path recursive) no_store =
       ap (if_asked (removed (viewed read state)) (viewed read state)) (delete_at-viewed read state path recursive) ∙ if_asked-viewed read (removed state) (removed (viewed read state)) state (removed-viewed read state) (delete_at state path recursive)
-  change-viewed state (calls.Rename old new) served no_store =
+  any_storeless-viewed state (calls.Rename old new) no_store =
       ap (if_asked (renamed (viewed read state)) (viewed read state)) (rename_at-viewed read state old new) ∙ if_asked-viewed read (renamed state) (renamed (viewed read state)) state (renamed-viewed read state) (rename_at state old new)
-  change-viewed state (calls.SetMode path mode) served no_store =
+  any_storeless-viewed state (calls.SetMode path mode) no_store =
       ap (if_asked (with_mode (viewed read state) mode) (viewed read state)) (set_mode_at-viewed read state path)
       ∙ if_asked-viewed read (with_mode state mode) (with_mode (viewed read state) mode) state (with_mode-viewed read state mode) (set_mode_at state path)
-  change-viewed state (calls.Read path offset len) served no_store = refl
-  change-viewed state (calls.ReadNext cursor len) served no_store = refl
-  change-viewed state (calls.Stat path) served no_store = refl
-  change-viewed state (calls.List path size) served no_store = refl
-  change-viewed state (calls.Allow path) served no_store = absurd (cc)
-  change-viewed state (calls.Disallow path) served no_store = absurd (cc)
-  change-viewed state (calls.Snap path name) served no_store = absurd (cc)
-  change-viewed state (calls.SnapDel path name) served no_store = absurd (cc)
-  change-viewed state (calls.SnapRen path old new) served no_store = absurd (cc)
-  change-viewed state (calls.ListNext cursor size) served no_store = absurd (cc)
-  change-viewed state (calls.Snaps path) served no_store = absurd (cc)
-  change-viewed state calls.Dirs served no_store = absurd (cc)
-  change-viewed state (calls.Report path from to size) served no_store = absurd (cc)
-  change-viewed state (calls.ReportNext cursor size) served no_store = absurd (cc)
+  any_storeless-viewed state (calls.Allow path) no_store =
+      ap (if_asked (allowed (viewed read state)) (viewed read state)) (allow_at-viewed read state path) ∙ if_asked-viewed read (allowed state) (allowed (viewed read state)) state (allowed-viewed read state) (allow_at state path)
+  any_storeless-viewed state (calls.Disallow path) no_store =
+      ap (if_asked (disallowed (viewed read state)) (viewed read state)) (disallow_at-viewed read state path)
+      ∙ if_asked-viewed read (disallowed state) (disallowed (viewed read state)) state (λ id. refl) (disallow_at state path)
+  any_storeless-viewed state (calls.Snap path name) no_store =
+      ap (if_asked (snapped (viewed read state) name) (viewed read state)) (snap_at-viewed read state path name)
+      ∙ if_mapped-viewed read (viewed_place read) (snapped state name) (snapped (viewed read state) name) state (snapped-viewed read state name) (snap_at state path name)
+  any_storeless-viewed state (calls.SnapDel path name) no_store =
+      ap (if_asked (unsnapped (viewed read state)) (viewed read state)) (snap_del_at-viewed read state path name)
+      ∙ if_asked-viewed read (unsnapped state) (unsnapped (viewed read state)) state (unsnapped-viewed read state) (snap_del_at state path name)
+  any_storeless-viewed state (calls.SnapRen path old new) no_store =
+      ap (if_asked (resnapped (viewed read state) new) (viewed read state)) (snap_ren_at-viewed read state path old new)
+      ∙ if_asked-viewed read (resnapped state new) (resnapped (viewed read state) new) state (resnapped-viewed read state new) (snap_ren_at state path old new)
+  any_storeless-viewed state (calls.Read path offset len) no_store = refl
+  any_storeless-viewed state (calls.ReadNext cursor len) no_store = refl
+  any_storeless-viewed state (calls.Stat path) no_store = refl
+  any_storeless-viewed state (calls.List path size) no_store = refl
+  any_storeless-viewed state (calls.ListNext cursor size) no_store = refl
+  any_storeless-viewed state (calls.Snaps path) no_store = refl
+  any_storeless-viewed state calls.Dirs no_store = refl
+  any_storeless-viewed state (calls.Report path from to size) no_store = refl
+  any_storeless-viewed state (calls.ReportNext cursor size) no_store = refl
 
-  -- every call that is served, where an append reads as one
+  pub change-viewed : (state : State A) (call : Call) → is_served call ≡ true → uses_store call ≡ false → change fb (viewed read state) call ≡ viewed read (change fa state call)
+  change-viewed state call served no_store = any_storeless-viewed state call no_store
+
+  -- every call, where an append reads as one
   module _ (longer : (file : A) (bytes : List ℕ) → read (fa.append file bytes) ≡ fb.append (read file) bytes) where
     if_appended-viewed : (state : State A) (bytes : List ℕ) (at : Asked (Names × Node A × A)) →
         if_asked (appended fb (viewed read state) bytes) (viewed read state) (mapped (viewed_file read) at) ≡ viewed read (if_asked (appended fa state bytes) state at)
@@ -183,24 +253,27 @@ module _ {A B : Type 0} (read : A → B) (fa : Files A) (fb : Files B) (empty : 
         ap (with_file (viewed read state) at.0 (viewed_node read at.1)) (sym (longer at.2 bytes)) ∙ with_file-viewed read state at.0 at.1 (fa.append at.2 bytes)
     if_appended-viewed state bytes (Err why) = refl
 
+    pub any_change-viewed : (state : State A) (call : Call) → change fb (viewed read state) call ≡ viewed read (change fa state call)
+    any_change-viewed state (calls.Mkdir path) = any_storeless-viewed state (calls.Mkdir path) refl
+    any_change-viewed state (calls.Create path over) = any_storeless-viewed state (calls.Create path over) refl
+    any_change-viewed state (calls.Append path bytes) = ap (if_asked (appended fb (viewed read state) bytes) (viewed read state)) (append_at-viewed read state path) ∙ if_appended-viewed state bytes (append_at state path)
+    any_change-viewed state (calls.Delete path recursive) = any_storeless-viewed state (calls.Delete path recursive) refl
+    any_change-viewed state (calls.Rename old new) = any_storeless-viewed state (calls.Rename old new) refl
+    any_change-viewed state (calls.SetMode path mode) = any_storeless-viewed state (calls.SetMode path mode) refl
+    any_change-viewed state (calls.Allow path) = any_storeless-viewed state (calls.Allow path) refl
+    any_change-viewed state (calls.Disallow path) = any_storeless-viewed state (calls.Disallow path) refl
+    any_change-viewed state (calls.Snap path name) = any_storeless-viewed state (calls.Snap path name) refl
+    any_change-viewed state (calls.SnapDel path name) = any_storeless-viewed state (calls.SnapDel path name) refl
+    any_change-viewed state (calls.SnapRen path old new) = any_storeless-viewed state (calls.SnapRen path old new) refl
+    any_change-viewed state (calls.Read path offset len) = refl
+    any_change-viewed state (calls.ReadNext cursor len) = refl
+    any_change-viewed state (calls.Stat path) = refl
+    any_change-viewed state (calls.List path size) = refl
+    any_change-viewed state (calls.ListNext cursor size) = refl
+    any_change-viewed state (calls.Snaps path) = refl
+    any_change-viewed state calls.Dirs = refl
+    any_change-viewed state (calls.Report path from to size) = refl
+    any_change-viewed state (calls.ReportNext cursor size) = refl
+
     pub every_change-viewed : (state : State A) (call : Call) → is_served call ≡ true → change fb (viewed read state) call ≡ viewed read (change fa state call)
-    every_change-viewed state (calls.Mkdir path) served = change-viewed state (calls.Mkdir path) refl refl
-    every_change-viewed state (calls.Create path over) served = change-viewed state (calls.Create path over) refl refl
-    every_change-viewed state (calls.Append path bytes) served = ap (if_asked (appended fb (viewed read state) bytes) (viewed read state)) (append_at-viewed read state path) ∙ if_appended-viewed state bytes (append_at state path)
-    every_change-viewed state (calls.Delete path recursive) served = change-viewed state (calls.Delete path recursive) refl refl
-    every_change-viewed state (calls.Rename old new) served = change-viewed state (calls.Rename old new) refl refl
-    every_change-viewed state (calls.SetMode path mode) served = change-viewed state (calls.SetMode path mode) refl refl
-    every_change-viewed state (calls.Read path offset len) served = refl
-    every_change-viewed state (calls.ReadNext cursor len) served = refl
-    every_change-viewed state (calls.Stat path) served = refl
-    every_change-viewed state (calls.List path size) served = refl
-    every_change-viewed state (calls.Allow path) served = absurd (cc)
-    every_change-viewed state (calls.Disallow path) served = absurd (cc)
-    every_change-viewed state (calls.Snap path name) served = absurd (cc)
-    every_change-viewed state (calls.SnapDel path name) served = absurd (cc)
-    every_change-viewed state (calls.SnapRen path old new) served = absurd (cc)
-    every_change-viewed state (calls.ListNext cursor size) served = absurd (cc)
-    every_change-viewed state (calls.Snaps path) served = absurd (cc)
-    every_change-viewed state calls.Dirs served = absurd (cc)
-    every_change-viewed state (calls.Report path from to size) served = absurd (cc)
-    every_change-viewed state (calls.ReportNext cursor size) served = absurd (cc)
+    every_change-viewed state call served = any_change-viewed state call

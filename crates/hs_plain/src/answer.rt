@@ -120,6 +120,13 @@ pub fn is_served(call: &Call) -> bool
     }
 }
 
+/// Whether a call asks for a page of a report.
+pub fn is_report(call: &Call) -> bool
+    ensures { result ≡ Served.is_report call.now }
+{
+    matches!(call, Call::Report { .. } | Call::ReportNext { .. })
+}
+
 fn asked(alloc: Global, state: &PlainState, call: &Call) -> Result<Reply, AskFault>
     ensures { MatchResult result (λ reply. Answer.asked plain_files state.now call.now ≡ Ok reply) (IsFaultOf (Answer.asked plain_files state.now call.now)) }
 {
