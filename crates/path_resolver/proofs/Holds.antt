@@ -92,7 +92,7 @@ module _ {X : Type 0} (s a b : X → Bool) where
 
 -- ---- lists of directories
 
-entry-some : (ds : List Directory) (d : Directory) → In ds d → is_some (option_map (λ (e : Directory). e.1) (find (is_of d.0) ds)) ≡ true
+pub entry-some : (ds : List Directory) (d : Directory) → In ds d → is_some (option_map (λ (e : Directory). e.1) (find (is_of d.0) ds)) ≡ true
 entry-some [] d at = absurd at
 entry-some (e ∷ ds) d at = by (entry-some ds d) (cases_Bool (is_of d.0 e)) at
   where
@@ -101,7 +101,7 @@ entry-some (e ∷ ds) d at = by (entry-some ds d) (cases_Bool (is_of d.0 e)) at
     by rest (inr other) (inl same) = absurd (true_false (inode_test d.0 e.0 (ap (λ (x : Directory). x.0.0) (sym same))) other)
     by rest (inr other) (inr at) = rw other (rest at)
 
-some-entry : (ds : List Directory) (id : InodeId) → is_some (option_map (λ (e : Directory). e.1) (find (is_of id) ds)) ≡ true → (d : Directory) × In ds d × (d.0 ≡ id)
+pub some-entry : (ds : List Directory) (id : InodeId) → is_some (option_map (λ (e : Directory). e.1) (find (is_of id) ds)) ≡ true → (d : Directory) × In ds d × (d.0 ≡ id)
 some-entry [] id h = absurd (true_false h refl)
 some-entry (e ∷ ds) id h = by (some-entry ds id) (cases_Bool (is_of id e)) h
   where
@@ -144,7 +144,7 @@ module _ (table : Tabled) (snaps : Snapshots) (state : State FileBlocks) (all : 
         let snap : is_snapshottable state y.1.id ≡ true = all.snapshottable y.1.id ∙ ap (λ (i : InodeId). is_some (snaps_of snaps i)) y.3 ∙ entry-some snaps.dirs d.0 d.1 in
         any_from (λ place. test place) state.tree (y.0, y.1) (in-tree state.tree y.0 y.1 y.2) (alike y.0 y.1 y.2 snap ∙ ap own y.3 ∙ d.2))
 
-  has-told : (id : InodeId) → has_snapshots state id ≡ is_some (last_id (snaps_in snaps id))
+  pub has-told : (id : InodeId) → has_snapshots state id ≡ is_some (last_id (snaps_in snaps id))
   has-told id = has-last state.members id ∙ ap (λ items. is_some (last_id items)) (sym (all.told.tables id))
 
   has-place : (id : InodeId) → has_snapshots state id ≡ true → is_snapshottable state id ≡ true

@@ -1,9 +1,12 @@
 pub mod ByRows
+pub mod Climbs
 pub mod Copies
 pub mod Directories
 pub mod Halves
 pub mod Holds
+pub mod Later
 pub mod Live
 pub mod Over
+pub mod Stays
 pub mod Under
 pub mod Ups

@@ -142,22 +142,24 @@ module _ (f : Nodes FileBlocks) (is : IsNodes f) where
       )
 
 module _ (table : Tabled) (snaps : Snapshots) (state : State FileBlocks) (all : StandsFor table snaps state) where
-  row-there : (id : InodeId) (n : Node FileBlocks) (o : Option RowState) → option_map (node_in id 0) (option_map (λ (row : RowState). row.rows) o) ≡ Some n → (row : RowState) × (o ≡ Some row)
-  row-there id n None e = absurd (none_some e)
-  row-there id n (Some row) e = (row, refl)
+  module _ (s : ℕ) (top : InodeId) (f : Nodes FileBlocks) (is : IsNodes f) (reads : ReadsAs (shown table.rows s) top f) where
+    row-there : (id : InodeId) (n : Node FileBlocks) (o : Option RowState) → option_map (node_in id s) (option_map (λ (row : RowState). row.rows) o) ≡ Some n → (row : RowState) × (o ≡ Some row)
+    row-there id n None e = absurd (none_some e)
+    row-there id n (Some row) e = (row, refl)
 
-  upto-greatest : (p : Names) (n : Node FileBlocks) → node_at state.tree p ≡ Some n → n.id.0 ≤ table.greatest
-  upto-greatest p n at = let row = row-there n.id n (row_at table.rows n.id) (all.stands.live.node p n at) in all.ids n.id row.0 row.1
+    upto-greatest : (p : Names) (n : Node FileBlocks) → f p ≡ Some n → n.id.0 ≤ table.greatest
+    upto-greatest p n at = let row = row-there n.id n (row_at table.rows n.id) (reads.node p n at) in all.ids n.id row.0 row.1
 
-  -- the ids on a path differ, so there are no more than greatest ones
-  pub few-above : (q : Names) (y : Node FileBlocks) → node_at state.tree q ≡ Some y → length q < table.greatest + 1
-  few-above q y there =
-      let f : Nodes FileBlocks = node_at state.tree in
-      let is : IsNodes f = nodes table snaps state all in
-      let len : length (ids_along f [] q) ≡ length q + 1 = length-along f is q [] in
-      let few : length (ids_along f [] q) ≤ table.greatest + 1 = length-le_from_distinct_below (ids_along f [] q) (table.greatest + 1) (distinct f is q [] y there)
-      (λ k h. let m = along-node f is q [] y k there (along-so f is q [] k h) in let upto = upto-greatest _ m.0 m.1 in let named : k ≡ m.0.id.0 = m.2 in omega (arith, upto, named)) in
-      omega (arith, len, few)
+    -- the ids on a path differ, so there are no more than greatest ones
+    pub few-below : (q : Names) (y : Node FileBlocks) → f q ≡ Some y → length q < table.greatest + 1
+    few-below q y there =
+        let len : length (ids_along f [] q) ≡ length q + 1 = length-along f is q [] in
+        let few : length (ids_along f [] q) ≤ table.greatest + 1 = length-le_from_distinct_below (ids_along f [] q) (table.greatest + 1) (distinct f is q [] y there)
+        (λ k h. let m = along-node f is q [] y k there (along-so f is q [] k h) in let upto = upto-greatest _ m.0 m.1 in let named : k ≡ m.0.id.0 = m.2 in omega (arith, upto, named)) in
+        omega (arith, len, few)
+
+  few-above : (q : Names) (y : Node FileBlocks) → node_at state.tree q ≡ Some y → length q < table.greatest + 1
+  few-above = few-below 0 root_id (node_at state.tree) (nodes table snaps state all) all.stands.live
 
   pub under : (path place : Names) (above id : InodeId) → id_of (node_at state.tree path) ≡ Some above → id_of (node_at state.tree place) ≡ Some id
       → comes_up (shown table.rows 0) above (table.greatest + 1) id ≡ starts_with bytes_eq place path

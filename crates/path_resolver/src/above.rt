@@ -1,7 +1,6 @@
 //! Whether inodes of the live tree stand at others or below them, by going up; and where snapshottable directories stand.
 ghost use Rattle.std.specs.Prelude.{◌≡◌, ◌+◌, bytes_eq, Some};
 ghost use Rattle.std.specs.List.{list_any, starts_with};
-ghost use Rattle.std.specs.Option.{option_copied};
 ghost use Rattle.hs_types.specs.Names.{Names};
 ghost use Rattle.hs_plain.specs.declared.state.State.{State};
 ghost use Rattle.hs_plain.specs.declared.state.FileBlocks.{FileBlocks};
@@ -17,8 +16,9 @@ ghost use Rattle.path_resolver.specs.Above.{up_from, comes_up, is_sought};
 ghost use Rattle.path_resolver.specs.ByRows.{led_in};
 
 use crate::by_rows::child_at;
-use hs_types::{InodeId, Name, SnapId, Spot};
-use inode_table::{Rows, Table};
+use crate::upward::spot_at;
+use hs_types::{InodeId, Name, SnapId};
+use inode_table::Table;
 use snapshot_manager::Snaps;
 
 /// Which snapshottable directories are sought.
@@ -32,19 +32,6 @@ pub enum Sought {
     Below,
 }
 
-/// Where an inode stands now, by its own row.
-fn spot_of(table: &Table, id: InodeId) -> Option<&Spot>
-    ensures { option_copied result ≡ (shown (told table.now).rows 0).spot id }
-{
-    match table.row(id) {
-        None => None,
-        Some(row) => match &row.rows {
-            Rows::File(file) => Some(&file.current().spot),
-            Rows::Dir(dir) => Some(dir.marks_at(SnapId(0)).spot),
-        },
-    }
-}
-
 /// The directory that an inode's spot leads to, where its list names the inode. None is above the root.
 fn parent_of(table: &Table, id: InodeId) -> Option<InodeId>
     ensures { result ≡ up_from (shown (told table.now).rows 0) id }
@@ -52,7 +39,7 @@ fn parent_of(table: &Table, id: InodeId) -> Option<InodeId>
     if id == InodeId::ROOT {
         return None;
     }
-    let spot = spot_of(table, id)?;
+    let spot = spot_at(table, SnapId(0), id)?;
     match child_at(table, SnapId(0), spot.parent, &spot.name) {
         Ok(named) if named == id => Some(spot.parent),
         _ => None,

@@ -9,6 +9,7 @@ pub mod above;
 pub mod asked;
 pub mod by_rows;
 pub mod search;
+pub mod upward;
 
 use hs_plain::State;
 use hs_plain::resolve::{is_snapshottable, member_named};

@@ -4,3 +4,4 @@ pub mod Members
 pub mod Whole
 pub mod Freeing
 pub mod Answering
+pub mod Weighing

@@ -25,6 +25,7 @@ use Rattle.inode_table.specs.Joined.{told, AreTold}
 use Rattle.inode_table.specs.Released.{Releasing}
 use Rattle.inode_table.specs.Stands.{Stands}
 use Rattle.inode_table.specs.Tabled.{Tabled}
+use Rattle.inode_table.specs.Totals.{weight}
 use Rattle.inode_table.specs.Whole.{AreRecords, IsFilled, StandsFor, StandsForPlain}
 use Rattle.inode_table.proofs.Giving.{from-valid}
 use Rattle.inode_table.proofs.Going.{released-stands}
@@ -42,6 +43,7 @@ use Rattle.table_laws.proofs.WholeDropped.{merged-by, within-merged, greatest-me
 use Rattle.table_laws.proofs.WholeParts.{Within, within-of, within-released, greatest-released, marks-within, ids-within}
 use Rattle.table_laws.proofs.WholeSnaps.{some-changed}
 use Rattle.record_merge.proofs.Members.{found-member, told-without}
+use Rattle.record_merge.proofs.Weighing.{drop-weight}
 
 -- ---- what is looked at
 
@@ -155,6 +157,9 @@ module _ (t middle after : Tabled) (freed : Freed) (snaps : Snapshots) (state : 
   pub blocks-without : (store : Option BlockMap) (made : ℕ) (waiting : List BlockId) → AreBlocks t.rows store made waiting → AreBlocks after.rows store made (waiting ++ freed.blocks)
   blocks-without store made waiting are = (drop-blocks store made waiting t middle after merges.0 freed merges.1 is.going (record { handed_out = is.before.handed_out; blocks = are })).blocks
 
+  pub weight-without : weight after.rows ≤ weight t.rows
+  weight-without = drop-weight t middle after merges.0 freed merges.1 is.going (record { sound = is.before.records.undoable; named = is.before.naming })
+
 -- ---- from what a call tells
 
 -- what is known of a call that answered Ok
@@ -199,6 +204,11 @@ pub blocks-then : (t after : Tabled) (snaps : Snapshots) (state : State FileBloc
     → Answered t after snaps id dir item ids high freed → (store : Option BlockMap) (made : ℕ) (waiting : List BlockId) → AreBlocks t.rows store made waiting → AreBlocks after.rows store made (waiting ++ freed.blocks)
 blocks-then t after snaps state id dir item ids high freed before le a =
     let d = deleted t after snaps state id dir item ids high freed before le a in blocks-without t a.middle after freed snaps state d.gone ids d.deletes
+
+pub weight-then : (t after : Tabled) (snaps : Snapshots) (state : State FileBlocks) (id : SnapId) (dir : InodeId) (item : SnapItem) (ids : List InodeId) (high : ℕ) (freed : Freed) → StandsFor t snaps state → state.tick ≤ high
+    → Answered t after snaps id dir item ids high freed → weight after.rows ≤ weight t.rows
+weight-then t after snaps state id dir item ids high freed before le a =
+    let d = deleted t after snaps state id dir item ids high freed before le a in weight-without t a.middle after freed snaps state d.gone ids d.deletes
 
 -- ---- the plain state
 

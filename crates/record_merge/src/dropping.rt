@@ -17,6 +17,7 @@ ghost use Rattle.inode_table.specs.Merged.{IsRowMergeable};
 ghost use Rattle.inode_table.specs.Numbered.{row_of};
 ghost use Rattle.inode_table.specs.Released.{Releasing};
 ghost use Rattle.inode_table.specs.Tabled.{Tabled};
+ghost use Rattle.inode_table.specs.Totals.{weight};
 ghost use Rattle.inode_table.specs.Whole.{StandsFor, StandsForPlain};
 ghost use Rattle.table_laws.specs.RecordDropping.{AreLeft};
 ghost use Rattle.table_laws.specs.RecordDropped.{MergesLost, StaysAlike, LooksAt};
@@ -113,6 +114,7 @@ pub fn drop_snapshot(table: &mut Table, snaps: &mut Snaps, id: SnapId) -> Result
         → IfOk result (λ freed. StandsForPlain (told table.new) snaps.new store made (waiting ++ freed.blocks) (unsnapped plain id)) }
     ensures freed { (state : State FileBlocks) (store : BlockMap) (made : ℕ) (waiting : List BlockId) → state.tick < 2 ^ 64 → StandsFor (told table.old) snaps.old state → AreBlocks (told table.old).rows (Some store) made waiting
         → IfOk result (λ freed. FreesExactly (told table.old).rows (told table.new).rows freed.blocks) }
+    ensures light { (state : State FileBlocks) → state.tick < 2 ^ 64 → StandsFor (told table.old) snaps.old state → OnOk result (weight (told table.new).rows ≤ weight (told table.old).rows) }
     ensures err_table { OnErr result (told table.new ≡ told table.old) }
     ensures err_snaps { OnErr result (snaps.new ≡ snaps.old) }
 {

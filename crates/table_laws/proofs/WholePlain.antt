@@ -15,11 +15,10 @@ use Rattle.hs_plain.specs.Files.{plain_files, block_files}
 use Rattle.hs_plain.specs.State.{start}
 use Rattle.hs_plain.specs.Modifying.{append_at}
 use Rattle.hs_plain.specs.Answer.{uses_store}
-use Rattle.hs_plain.specs.Served.{is_served}
 use Rattle.hs_plain.specs.Change.{change, with_file, ticked}
 use Rattle.hs_plain.specs.Viewed as viewed
 use Rattle.hs_plain.specs.Viewed.{HasBytes}
-use Rattle.hs_plain.proofs.Stands.{change_stands, change_told, appended_stands, appended_told}
+use Rattle.hs_plain.proofs.Stands.{any_change_stands, any_change_told, appended_stands, appended_told}
 use Rattle.hs_plain.proofs.Validity.{valid-start}
 use Rattle.hs_plain.proofs.ValidShapes.{none_some, same_some}
 use Rattle.snapshot_manager.specs.Snapshots as snapshots
@@ -101,13 +100,13 @@ plain-tick t snaps store made waiting plain was = record {
 }
 
 pub plain-call : (t after : Tabled) (snaps next : Snapshots) (store : Option BlockMap) (made : ℕ) (waiting left : List BlockId) (plain : State (List ℕ)) (call : Call) (was : StandsForPlain t snaps store made waiting plain)
-    → is_served call ≡ true → uses_store call ≡ false → StandsFor after next (ticked (change block_files was.state call)) → AreBlocks after.rows store made left
+    → uses_store call ≡ false → StandsFor after next (ticked (change block_files was.state call)) → AreBlocks after.rows store made left
     → StandsForPlain after next store made left (ticked (change plain_files plain call))
-plain-call t after snaps next store made waiting left plain call was served storeless stands blocks = record {
+plain-call t after snaps next store made waiting left plain call was storeless stands blocks = record {
   state = ticked (change block_files was.state call);
   stands = stands;
-  sized = ap ticked (change_stands was.state plain was.sized call served);
-  bytes = bytes_ticked store (change block_files was.state call) (change plain_files plain call) (change_told store was.state plain was.bytes call served storeless);
+  sized = ap ticked (any_change_stands was.state plain was.sized call);
+  bytes = bytes_ticked store (change block_files was.state call) (change plain_files plain call) (any_change_told store was.state plain was.bytes call storeless);
   blocks = blocks;
 }
 

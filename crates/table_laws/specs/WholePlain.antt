@@ -1,5 +1,5 @@
--- Table, snapshots and store stand for a plain state: at first, and after each call that takes no snapshot away and makes none.
-use Rattle.std.specs.Prelude.{◌≡◌, ℕ, ◌+◌, true, false, List, [], ◌∷◌, ◌++◌, length, Option, None, Some, Ok, ⊤}
+-- Table, snapshots and store stand for a plain state: at first, and after each call and each block that is freed.
+use Rattle.std.specs.Prelude.{◌≡◌, ℕ, ◌+◌, false, List, [], ◌∷◌, ◌++◌, length, Option, None, Some, Ok, ⊤}
 use Rattle.hs_types.specs.Names.{Names}
 use Rattle.hs_types.specs.Blocks.{BlockMap}
 use Rattle.hs_types.specs.declared.ids.BlockId.{BlockId}
@@ -13,7 +13,6 @@ use Rattle.hs_plain.specs.Files.{plain_files, block_files}
 use Rattle.hs_plain.specs.State.{start}
 use Rattle.hs_plain.specs.Modifying.{append_at}
 use Rattle.hs_plain.specs.Answer.{uses_store}
-use Rattle.hs_plain.specs.Served.{is_served}
 use Rattle.hs_plain.specs.Change.{change, with_file, ticked}
 use Rattle.hs_plain.specs.Viewed.{bytes_in}
 use Rattle.snapshot_manager.specs.Snapshots as snapshots
@@ -42,10 +41,10 @@ abbrev pub TickPlainLaw : Type 0
 TickPlainLaw = (t : Tabled) (snaps : Snapshots) (store : Option BlockMap) (made : ℕ) (waiting : List BlockId) (plain : State (List ℕ))
     → StandsForPlain t snaps store made waiting plain → StandsForPlain t snaps store made waiting (ticked plain)
 
--- a call on the tree that asks for no store: what stands for the state with blocks after it, over the same store, stands for the plain state after it
+-- a call that asks for no store: what stands for the state with blocks after it, over the same store, stands for the plain state after it
 abbrev pub CallPlainLaw : Type 0
 CallPlainLaw = (t after : Tabled) (snaps next : Snapshots) (store : Option BlockMap) (made : ℕ) (waiting left : List BlockId) (plain : State (List ℕ)) (call : Call) (was : StandsForPlain t snaps store made waiting plain)
-    → is_served call ≡ true → uses_store call ≡ false → StandsFor after next (ticked (change block_files was.state call)) → AreBlocks after.rows store made left
+    → uses_store call ≡ false → StandsFor after next (ticked (change block_files was.state call)) → AreBlocks after.rows store made left
     → StandsForPlain after next store made left (ticked (change plain_files plain call))
 
 -- the new file has these bytes behind the old one's, where the store tells its blocks

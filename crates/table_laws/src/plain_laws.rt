@@ -16,7 +16,7 @@ pub fn tick_plain()
     ensures { TickPlainLaw }
 {}
 
-/// A call on the tree that asks for no store.
+/// A call that asks for no store: on the tree, on snapshots, or one that reads no file.
 pub fn call_plain()
     ensures { CallPlainLaw }
 {}

@@ -5,7 +5,7 @@ use Rattle.inode_table.specs.Kept.{told}
 use Rattle.inode_table.specs.Whole.{StandsFor, StandsForPlain}
 use Rattle.record_merge.proofs.Answering.{if-ok, on-ok, answered}
 use Rattle.record_merge.proofs.Freeing.{freed-exactly}
-use Rattle.record_merge.proofs.Whole.{stands-then, blocks-then, plain-then}
+use Rattle.record_merge.proofs.Whole.{stands-then, blocks-then, weight-then, plain-then}
 use Rattle.record_merge.proofs.dropping.drop_snapshot.Goals as goal
 
 upto : (n : ℕ) → n < 18446744073709551616 → n ≤ 18446744073709551615
@@ -33,6 +33,13 @@ returns-clause-freed c = λ state store made waiting lt before are. if-ok c.comm
     (blocks-then (told c.args.table.now) (told c.commit.new.table) c.args.snaps.now state c.args.id c.in-Some.dir item ids 18446744073709551615 freed before (upto state.tick lt)
     (answered (told c.prepared_since.new.table) (told c.args.table.now) (told c.commit.new.table) c.args.snaps.now c.commit.new.snaps c.args.id c.in-Some.dir item c.in_ok-name.name c.items.result.now ids 18446744073709551615 freed
     c.always.ensures.proper c.in-Some.ensures c.in_ok-name.ensures c.in_ok-ids.ensures.same c.items.ensures c.in_ok-ids.ensures.all c.commit.ensures.snaps told_by) (Some store) made waiting are))
+
+pub returns-clause-light : goal.returns-clause-light
+returns-clause-light c = λ state lt before. on-ok c.commit.result c.commit.ensures.table (λ freed told_by.
+    let item = c.in-Some.item.now in let ids = c.in_ok-ids.ids in
+    weight-then (told c.args.table.now) (told c.commit.new.table) c.args.snaps.now state c.args.id c.in-Some.dir item ids 18446744073709551615 freed before (upto state.tick lt)
+    (answered (told c.prepared_since.new.table) (told c.args.table.now) (told c.commit.new.table) c.args.snaps.now c.commit.new.snaps c.args.id c.in-Some.dir item c.in_ok-name.name c.items.result.now ids 18446744073709551615 freed
+    c.always.ensures.proper c.in-Some.ensures c.in_ok-name.ensures c.in_ok-ids.ensures.same c.items.ensures c.in_ok-ids.ensures.all c.commit.ensures.snaps told_by))
 
 pub returns-clause-plain : goal.returns-clause-plain
 returns-clause-plain c = λ plain store made waiting lt before. if-ok c.commit.result c.commit.ensures.table (λ freed told_by.
