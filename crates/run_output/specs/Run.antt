@@ -1,10 +1,11 @@
 -- What a run of a script is.
-use Rattle.std.specs.Prelude.{◌≡◌, ℕ, ◌+◌, ◌≤◌, Bool, true, false, ◌&&◌, ◌==◌, nat_lt, List, [], ◌∷◌, ◌++◌, map, length, slice_get, Option, Some, None, ⊤}
+use Rattle.std.specs.Prelude.{◌≡◌, ℕ, ◌+◌, ◌*◌, ◌≤◌, Bool, true, false, ◌&&◌, ◌==◌, nat_lt, List, [], ◌∷◌, ◌++◌, map, length, slice_get, Option, Some, None, ⊤}
 use Rattle.std.specs.List.{filter_map, flat_map, list_all, AllByRecursion}
 use Rattle.hs_types.specs.declared.ids.CallerId.{CallerId}
 use Rattle.hs_types.specs.declared.ids.Side.{Side}
 use Rattle.hs_types.specs.declared.ids.Side.TheVariants.{Source, Target}
 use Rattle.hs_types.specs.declared.journal.Entry.{Entry}
+use Rattle.hs_types.specs.declared.shown.Counts.{Counts}
 use Rattle.hs_types.specs.declared.reply.Answered.{Answered}
 use Rattle.hs_types.specs.Limits.{journal_limit}
 use Rattle.hs_plain.specs.Legal.{Said, IsLegalCall, places_of}
@@ -113,11 +114,16 @@ pub record IsSide (tells : Bool) (journal : List Entry) (steps : Sections Step) 
   pub clients_rise : list_all (rises (reached 0 steps.setup)) steps.clients ≡ true
   pub finish_rises : rises (all_reached (reached 0 steps.setup) steps.clients) steps.finish ≡ true
 
--- what is shown at the end is the state that the journal stands for
+-- the weight of what a namenode holds
+abbrev pub weight : Counts → ℕ
+weight counts = counts.rows + counts.records + counts.list_entries + counts.snapshots
+
+-- what is shown at the end is the state that the journal stands for; what is held grows with the entries, not with the copied trees
 pub record IsEndOf (journal : List Entry) (end : End) : Type 0 where
   pub tree : end.tree ≡ tree_lines (plain_after journal)
   pub snapshots : end.counts.snapshots ≡ length (plain_after journal).members
   pub rows : length (plain_after journal).tree ≤ end.counts.rows
+  pub light : weight end.counts ≤ 10 * length journal + 1
 
 -- ---- runs
 

@@ -1,12 +1,11 @@
 //! The text of a run.
-ghost use Rattle.std.specs.Prelude.{◌≡◌, ◌++◌, ◌∷◌, ℕ, List, IfOk, OnOk, false, codes, length, string_bytes, map};
+ghost use Rattle.std.specs.Prelude.{◌≡◌, ◌++◌, ◌∷◌, [], ℕ, List, IfOk, OnOk, codes, length, string_bytes, map};
 ghost use Rattle.std.specs.Fmt.{decimal};
 ghost use Rattle.std.specs.List.{flat_map};
 ghost use Rattle.percent_encoding.specs.Iter.{encoded_text};
 ghost use Rattle.run_output.specs.TextParts.{spaced, ended, indented, escaped, shown, mode_text};
 ghost use Rattle.hs_types.specs.declared.call.Call.TheVariants as calls;
 ghost use Rattle.hs_types.specs.declared.reply.Reply.TheVariants.{Refused};
-ghost use Rattle.hs_plain.specs.Served.{is_served};
 ghost use Rattle.run_output.specs.CallText.{create_word, delete_word, call_text};
 ghost use Rattle.run_output.specs.Text.{side_word, kind_word, more_or_end, reply_text, item_text, snap_text, dir_text, letter, relative, target_text, line_text, further_lines, reply_line, answered_lines, item_lines, heading, log_lines, marked, entry_line, journal_lines, node_name, dir_line, file_line, node_line, tree_lines, text_of};
 
@@ -312,78 +311,73 @@ fn write_call(out: &mut String, call: &Call) -> Result<(), NoMemory>
     ensures { OnOk result (string_bytes out.new ≡ string_bytes out.old ++ ended (call_text call.now)) }
 {
     match call {
-        Call::Mkdir { path } => writeln!(out, "mkdir {}", escaped(path.text()))?,
-        Call::Create { path, over } => {
-            writeln!(out, "{} {}", create_word(*over), escaped(path.text()))?
-        }
-        Call::Append { path, bytes } => write_append(out, path.text(), bytes.bytes())?,
+        Call::Mkdir { path } => write_path_call(out, "mkdir", path.text()),
+        Call::Create { path, over } => write_path_call(out, create_word(*over), path.text()),
+        Call::Append { path, bytes } => write_append(out, path.text(), bytes.bytes()),
         Call::Delete { path, recursive } => {
-            writeln!(out, "{} {}", delete_word(*recursive), escaped(path.text()))?
+            write_path_call(out, delete_word(*recursive), path.text())
         }
-        Call::Rename { old, new } => {
-            writeln!(out, "mv {} {}", escaped(old.text()), escaped(new.text()))?
+        Call::Rename { old, new } => write_pair_call(out, "mv", old.text(), new.text()),
+        Call::SetMode { path, mode } => write_mode_call(out, path.text(), *mode),
+        Call::Allow { path } => write_path_call(out, "allow", path.text()),
+        Call::Disallow { path } => write_path_call(out, "disallow", path.text()),
+        Call::Snap { path, name } => write_pair_call(out, "snap", path.text(), name.text()),
+        Call::SnapDel { path, name } => write_pair_call(out, "snapdel", path.text(), name.text()),
+        Call::SnapRen { path, old, new } => {
+            write_snapshot_rename(out, path.text(), old.text(), new.text())
         }
-        Call::SetMode { path, mode } => {
-            write!(out, "chmod {} ", escaped(path.text()))?;
-            write_mode(out, *mode)?;
-            out.push_str("\n")?
-        }
-        Call::Read { path, offset, len } => {
-            writeln!(
-                out,
-                "read {} {offset} {}",
-                escaped(path.text()),
-                len.bytes()
-            )?
-        }
-        Call::ReadNext { cursor, len } => write_read_next(out, *cursor, *len)?,
-        Call::Stat { .. } => out.push_str("stat\n")?,
-        Call::List { .. } => out.push_str("list\n")?,
-        _ => write_snapshot_call(out, call)?,
+        Call::Read { path, offset, len } => write_read(out, path.text(), *offset, *len),
+        Call::ReadNext { cursor, len } => write_read_next(out, *cursor, *len),
+        Call::Stat { .. } => Ok(out.push_str("stat\n")?),
+        Call::List { .. } => Ok(out.push_str("list\n")?),
+        Call::ListNext { .. } => Ok(out.push_str("listnext\n")?),
+        Call::Snaps { .. } => Ok(out.push_str("snaps\n")?),
+        Call::Dirs => Ok(out.push_str("dirs\n")?),
+        Call::Report { .. } => Ok(out.push_str("report\n")?),
+        Call::ReportNext { .. } => Ok(out.push_str("reportnext\n")?),
     }
+}
+
+/// A call of a command with one path.
+fn write_path_call(out: &mut String, word: &str, path: &str) -> Result<(), NoMemory>
+    ensures { OnOk result (string_bytes out.new ≡ string_bytes out.old ++ ended (spaced (word.now ∷ escaped path.now ∷ []))) }
+{
+    writeln!(out, "{word} {}", escaped(path))?;
     Ok(())
 }
 
-/// The text of a call on snapshots, or that goes on at a cursor.
-fn write_snapshot_call(out: &mut String, call: &Call) -> Result<(), NoMemory>
-    requires { is_served call.now ≡ false }
-    ensures { OnOk result (string_bytes out.new ≡ string_bytes out.old ++ ended (call_text call.now)) }
+/// A call of a command with two paths, or with a path and the name of a snapshot.
+fn write_pair_call(out: &mut String, word: &str, first: &str, second: &str) -> Result<(), NoMemory>
+    ensures { OnOk result (string_bytes out.new ≡ string_bytes out.old ++ ended (spaced (word.now ∷ escaped first.now ∷ escaped second.now ∷ []))) }
 {
-    match call {
-        Call::Allow { path } => writeln!(out, "allow {}", escaped(path.text()))?,
-        Call::Disallow { path } => writeln!(out, "disallow {}", escaped(path.text()))?,
-        Call::Snap { path, name } => {
-            writeln!(
-                out,
-                "snap {} {}",
-                escaped(path.text()),
-                escaped(name.text())
-            )?
-        }
-        Call::SnapDel { path, name } => {
-            writeln!(
-                out,
-                "snapdel {} {}",
-                escaped(path.text()),
-                escaped(name.text())
-            )?
-        }
-        Call::SnapRen { path, old, new } => {
-            let path = escaped(path.text());
-            writeln!(
-                out,
-                "snapren {path} {} {}",
-                escaped(old.text()),
-                escaped(new.text())
-            )?
-        }
-        Call::ListNext { .. } => out.push_str("listnext\n")?,
-        Call::Snaps { .. } => out.push_str("snaps\n")?,
-        Call::Dirs => out.push_str("dirs\n")?,
-        Call::Report { .. } => out.push_str("report\n")?,
-        Call::ReportNext { .. } => out.push_str("reportnext\n")?,
-        _ => unreachable!(),
-    }
+    writeln!(out, "{word} {} {}", escaped(first), escaped(second))?;
+    Ok(())
+}
+
+/// A snapshot of a directory that gets another name.
+fn write_snapshot_rename(out: &mut String, path: &str, old: &str, new: &str) -> Result<(), NoMemory>
+    ensures { OnOk result (string_bytes out.new ≡ string_bytes out.old ++ ended (call_text (calls.SnapRen path.now old.now new.now))) }
+{
+    let path = escaped(path);
+    writeln!(out, "snapren {path} {} {}", escaped(old), escaped(new))?;
+    Ok(())
+}
+
+/// A change of a mode, which has four digits.
+fn write_mode_call(out: &mut String, path: &str, mode: Mode) -> Result<(), NoMemory>
+    ensures { OnOk result (string_bytes out.new ≡ string_bytes out.old ++ ended (call_text (calls.SetMode path.now mode))) }
+{
+    write!(out, "chmod {} ", escaped(path))?;
+    write_mode(out, mode)?;
+    out.push_str("\n")?;
+    Ok(())
+}
+
+/// A read from a path: where it begins, and how many bytes it has at most.
+fn write_read(out: &mut String, path: &str, offset: u64, len: ReadLen) -> Result<(), NoMemory>
+    ensures { OnOk result (string_bytes out.new ≡ string_bytes out.old ++ ended (call_text (calls.Read path.now offset len))) }
+{
+    writeln!(out, "read {} {offset} {}", escaped(path), len.bytes())?;
     Ok(())
 }
 

@@ -21,9 +21,16 @@ is_read_today spelled.Rm = true
 is_read_today spelled.Rmr = true
 is_read_today spelled.Mv = true
 is_read_today spelled.Chmod = true
+is_read_today spelled.Allow = true
+is_read_today spelled.Disallow = true
+is_read_today spelled.Snap = true
+is_read_today spelled.SnapDel = true
+is_read_today spelled.SnapRen = true
 is_read_today spelled.Stat = true
 is_read_today spelled.Cat = true
 is_read_today spelled.Ls = true
+is_read_today spelled.Snaps = true
+is_read_today spelled.Dirs = true
 is_read_today word = false
 
 abbrev pub is_sync_read_today : Bool
@@ -43,7 +50,14 @@ is_call_today (calls.Append path bytes) = true
 is_call_today (calls.Delete path recursive) = true
 is_call_today (calls.Rename old new) = true
 is_call_today (calls.SetMode path mode) = true
+is_call_today (calls.Allow path) = true
+is_call_today (calls.Disallow path) = true
+is_call_today (calls.Snap path name) = true
+is_call_today (calls.SnapDel path name) = true
+is_call_today (calls.SnapRen path old new) = true
 is_call_today (calls.Stat path) = true
+is_call_today (calls.Snaps path) = true
+is_call_today calls.Dirs = true
 is_call_today call = false
 
 -- the bytes of a file, or a listing

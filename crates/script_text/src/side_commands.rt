@@ -30,9 +30,16 @@ fn is_read_today(word: CommandWord) -> bool
             | CommandWord::Rmr
             | CommandWord::Mv
             | CommandWord::Chmod
+            | CommandWord::Allow
+            | CommandWord::Disallow
+            | CommandWord::Snap
+            | CommandWord::SnapDel
+            | CommandWord::SnapRen
             | CommandWord::Stat
             | CommandWord::Cat
             | CommandWord::Ls
+            | CommandWord::Snaps
+            | CommandWord::Dirs
     )
 }
 
