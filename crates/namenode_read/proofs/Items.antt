@@ -37,11 +37,11 @@ use Rattle.namenode_read.specs.ByRows.{is_dir_row, item_in, items_in, snap_items
 use Rattle.namenode_read.specs.Places.{IsThere}
 use Rattle.namenode_read.proofs.Stats.{AreSound, place_has, row_shows, entries_listed, are_sound, live_is, copy_is, copy_sorted}
 
--- what is asked of a place for the first page of its items
-abbrev pub asked_page : State FileBlocks → ℕ → Place → Asked Reply
-asked_page state size place = do
+-- what is asked of a place for a page of its items
+abbrev pub asked_page : State FileBlocks → Option (List ℕ) → ℕ → Place → Asked Reply
+asked_page state after size place = do
   items ← items_at state place
-  Ok (page_of place items None size)
+  Ok (page_of place items after size)
 
 -- ---- one tree
 
@@ -103,5 +103,5 @@ module _ (table : Tabled) (snaps : Snapshots) (state : State FileBlocks) (all : 
       sym (ap (λ b. cond {A = Asked (List Item)} b (Ok (snapshot_items state.members dir)) (Err NotFound)) there
       ∙ ap (λ (items : List Item). Ok items) (snaps_told state.members dir ∙ ap (snap_items dir) (sym (all.told.tables dir))))
 
-  pub page_there : (size : ℕ) (place : Place) → IsThere state place → page_found table.rows snaps size place ≡ asked_page state size place
-  page_there size place there = ap (λ (a : Asked (List Item)). a >>= λ items. Ok (page_of place items None size)) (items_there place there)
+  pub page_there : (after : Option (List ℕ)) (size : ℕ) (place : Place) → IsThere state place → page_found table.rows snaps after size place ≡ asked_page state after size place
+  page_there after size place there = ap (λ (a : Asked (List Item)). a >>= λ items. Ok (page_of place items after size)) (items_there place there)

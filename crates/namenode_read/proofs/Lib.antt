@@ -1,6 +1,7 @@
 pub mod Chains
+pub mod Cursors
+pub mod DirPaths
 pub mod Items
 pub mod Places
 pub mod Snapshots
-pub mod SnapsViewed
 pub mod Stats

@@ -28,7 +28,7 @@ use Rattle.namenode_read.specs.Places.{place_asked, IsThere}
 err_ok : {X : Type 0} {why : Refusal} {x : X} → ◌≡◌ {A = Asked X} (Err why) (Ok x) → ⊥
 err_ok e = cc
 
-ok_same : {X : Type 0} {x y : X} → ◌≡◌ {A = Asked X} (Ok x) (Ok y) → x ≡ y
+pub ok_same : {X : Type 0} {x y : X} → ◌≡◌ {A = Asked X} (Ok x) (Ok y) → x ≡ y
 ok_same e = cc
 
 -- a test and the next one gave something

@@ -1,10 +1,9 @@
 -- Snapshottable directories and their snapshots, by rows and in the plain state.
-use Rattle.std.proofs.Common.{◌≡◌, ℕ, ◌<◌, ◌≤◌, Bool, true, false, cond, not, List, [], ◌∷◌, map, filter, Option, Some, None, Ok, Err, refl, sym, ap, ◌∙◌, arith}
-use Rattle.std.specs.Prelude.{nat_lt, ◌==◌}
-use Rattle.std.specs.List.{find, filter_map, AllByRecursion}
+use Rattle.std.proofs.Common.{◌≡◌, ℕ, ◌<◌, ◌≤◌, Bool, true, false, cond, not, List, [], ◌∷◌, map, Option, Some, None, Ok, Err, refl, sym, ap, ◌∙◌, arith}
+use Rattle.std.specs.Prelude.{◌==◌}
+use Rattle.std.specs.List.{filter_map, AllByRecursion}
 use Rattle.std.specs.Option.{option_map}
 use Rattle.std.specs.Cmp.{nat_eq_equiv}
-use Rattle.std.proofs.lemmas.Bool.Decides.{nat_tests}
 use Rattle.hs_types.specs.declared.ids.InodeId.{InodeId}
 use Rattle.hs_types.specs.declared.name.SnapItem.{SnapItem}
 use Rattle.hs_types.specs.declared.refusal.Refusal.TheVariants.{NotSnapshottable}
@@ -20,7 +19,7 @@ use Rattle.hs_plain.specs.State.{is_snapshottable}
 use Rattle.hs_plain.specs.Reading.{directory_there, live_directory, snap_item}
 use Rattle.hs_plain.proofs.ValidShapes.{none_some, same_some}
 use Rattle.std.specs.FinMap.Entries.{is_sorted}
-use Rattle.snapshot_manager.specs.Snapshots.{Snapshots, IsProper, IdsRise, snaps_of, snaps_in, is_after}
+use Rattle.snapshot_manager.specs.Snapshots.{Snapshots, IsProper, IdsRise, snaps_of, snaps_in}
 use Rattle.snapshot_manager.specs.Members.{of_dir}
 use Rattle.snapshot_manager.proofs.Histories.{history_of}
 use Rattle.inode_table.specs.Joined.{told}
@@ -31,6 +30,7 @@ use Rattle.inode_table.specs.Tabled.{Tabled}
 use Rattle.inode_table.specs.Whole.{StandsFor}
 use Rattle.namenode_read.specs.ByRows.{directory_in, live_directory_found, may_have, snapshottable_found}
 use Rattle.namenode_read.specs.Places.{IsThere}
+use Rattle.path_resolver.proofs.Later.{later, all_later}
 use Rattle.namenode_read.proofs.Stats.{AreSound, place_has, row_shows, are_sound, live_is, copy_is, copy_sorted}
 
 -- what is asked of a place for its snapshottable directory
@@ -42,51 +42,8 @@ asked_directory state place = do
 
 -- ---- snapshots one after another
 
-abbrev pub later : ℕ → List SnapItem → List SnapItem
-later n items = filter (is_after (record { 0 = n })) items
-
-abbrev numbers : List SnapItem → List ℕ
-numbers items = map (λ item. item.id.0) items
-
--- all of them are later than what is below them
-pub all_later : (low n : ℕ) (items : List SnapItem) → n ≤ low → AllByRecursion (λ m. low < m) (numbers items) → later n items ≡ items
-all_later low n [] le all = refl
-all_later low n (item ∷ items) le all =
-    let lt : low < item.id.0 = all.0 in
-    let test : nat_lt n item.id.0 ≡ true = grind (arith, nat_tests) in
-    ap (λ b. cond b (item ∷ later n items) (later n items)) test ∙ ap (λ (rest : List SnapItem). item ∷ rest) (all_later low n items le all.1)
-
-found_after : (n : ℕ) (items : List SnapItem) (x : SnapItem) → find (is_after (record { 0 = n })) items ≡ Some x → n < x.id.0
-found_after n [] x e = absurd (none_some e)
-found_after n (item ∷ items) x e = elim (nat_lt n item.id.0) as (λ b. nat_lt n item.id.0 ≡ b → cond b (Some item) (find (is_after (record { 0 = n })) items) ≡ Some x → n < x.id.0) [
-  | true ↦ λ t g. let same : item.id.0 ≡ x.id.0 = ap (λ (i : SnapItem). i.id.0) (same_some g) in grind (arith, nat_tests)
-  | false ↦ λ _ g. found_after n items x g
-] refl e
-
--- the first later one, and those behind it
-pub first_later : (n : ℕ) (items : List SnapItem) (x : SnapItem) → IdsRise items → find (is_after (record { 0 = n })) items ≡ Some x → later n items ≡ x ∷ later x.id.0 items
-first_later n [] x rise e = absurd (none_some e)
-first_later n (item ∷ items) x rise e = elim (nat_lt n item.id.0) as (λ b. nat_lt n item.id.0 ≡ b → cond b (Some item) (find (is_after (record { 0 = n })) items) ≡ Some x → cond b (item ∷ later n items) (later n items) ≡ x ∷ later x.id.0 (item ∷ items)) [
-  | true ↦ λ t g.
-      let same : item ≡ x = same_some g in
-      let lt : n ≤ item.id.0 = grind (arith, nat_tests) in
-      let none : nat_lt item.id.0 item.id.0 ≡ false = grind (arith, nat_tests) in
-      ap (λ (rest : List SnapItem). item ∷ rest) (all_later item.id.0 n items lt rise.0)
-      ∙ sym (ap (λ b. item ∷ cond b (item ∷ later item.id.0 items) (later item.id.0 items)) none ∙ ap (λ (rest : List SnapItem). item ∷ rest) (all_later item.id.0 item.id.0 items (omega arith) rise.0))
-      ∙ ap (λ (i : SnapItem). i ∷ later i.id.0 (item ∷ items)) same
-  | false ↦ λ f g.
-      let above : n < x.id.0 = found_after n items x g in
-      let none : nat_lt x.id.0 item.id.0 ≡ false = grind (arith, nat_tests) in
-      first_later n items x rise.1 g ∙ ap (λ (rest : List SnapItem). x ∷ rest) (sym (ap (λ b. cond b (item ∷ later x.id.0 items) (later x.id.0 items)) none))
-] refl e
-
--- where there is no later one
-pub none_later : (n : ℕ) (items : List SnapItem) → find (is_after (record { 0 = n })) items ≡ None → later n items ≡ []
-none_later n [] e = refl
-none_later n (item ∷ items) e = elim (nat_lt n item.id.0) as (λ b. cond b (Some item) (find (is_after (record { 0 = n })) items) ≡ None → cond b (item ∷ later n items) (later n items) ≡ []) [
-  | true ↦ λ g. absurd (none_some (sym g))
-  | false ↦ λ g. none_later n items g
-] e
+abbrev pub id_of : SnapItem → ℕ
+id_of item = item.id.0
 
 module _ (snaps : Snapshots) (proper : IsProper snaps) (dir : InodeId) where
   pub rises : IdsRise (snaps_in snaps dir)
@@ -97,16 +54,16 @@ module _ (snaps : Snapshots) (proper : IsProper snaps) (dir : InodeId) where
       by (Some items) e = rw e (history_of snaps dir items proper e).rise
 
   -- each is later than 0
-  pub all_above : later 0 (snaps_in snaps dir) ≡ snaps_in snaps dir
+  pub all_above : later id_of 0 (snaps_in snaps dir) ≡ snaps_in snaps dir
   all_above = by (snaps_of snaps dir) refl
     where
-      above : (n : ℕ) (items : List SnapItem) → AllByRecursion (λ item. (0 < item.id.0) × (item.id.0 ≤ n)) items → AllByRecursion (λ m. 0 < m) (numbers items)
+      above : (n : ℕ) (items : List SnapItem) → AllByRecursion (λ item. (0 < item.id.0) × (item.id.0 ≤ n)) items → AllByRecursion (λ m. 0 < m) (map id_of items)
       above n [] all = tt
       above n (item ∷ items) all = (all.0.0, above n items all.1)
 
-      by : (o : Option (List SnapItem)) → snaps_of snaps dir ≡ o → later 0 (snaps_in snaps dir) ≡ snaps_in snaps dir
+      by : (o : Option (List SnapItem)) → snaps_of snaps dir ≡ o → later id_of 0 (snaps_in snaps dir) ≡ snaps_in snaps dir
       by None e = rw e refl
-      by (Some items) e = rw e (all_later 0 0 items (omega arith) (above snaps.issued.0 items (history_of snaps dir items proper e).in_range))
+      by (Some items) e = rw e (all_later id_of 0 0 items (omega arith) (above snaps.issued.0 items (history_of snaps dir items proper e).in_range))
 
 -- ---- what is shown of them
 

@@ -130,7 +130,7 @@ module _ (table : Tabled) (snaps : Snapshots) (state : State FileBlocks) (all : 
       by has is (Some (File file)) e shows = absurd (true_false (ap is_dir (same_some shows) ∙ is) refl)
       by has is (Some (Dir history)) e shows = (history, e)
 
-  count_snaps : (dir : InodeId) → snapshots_of state.members dir ≡ length (snaps_in snaps dir)
+  pub count_snaps : (dir : InodeId) → snapshots_of state.members dir ≡ length (snaps_in snaps dir)
   count_snaps dir = sym (ap length (all.told.tables dir) ∙ count_told state.members dir)
 
   list_found : (dir : InodeId) → is_snapshottable state dir ≡ true → list_stat (snapshots_of state.members dir) (place_of state.tree dir) ≡ list_stat_in (length (snaps_in snaps dir)) dir (rows_at table.rows dir)

@@ -87,7 +87,8 @@ items_found table snaps (places.Live id) = items_in table 0 (rows_at table id)
 items_found table snaps (places.Frozen id snapshot) = items_in table snapshot.0 (rows_at table id)
 items_found table snaps (places.SnapshotsOf dir) = Ok (snap_items dir (snaps_in snaps dir))
 
-abbrev pub page_found : Table → Snapshots → ℕ → Place → Asked Reply
-page_found table snaps size place = do
+-- a page of it behind a name
+abbrev pub page_found : Table → Snapshots → Option (List ℕ) → ℕ → Place → Asked Reply
+page_found table snaps after size place = do
   items ← items_found table snaps place
-  Ok (page_of place items None size)
+  Ok (page_of place items after size)

@@ -1,3 +1,3 @@
 pub mod ByRows
+pub mod Directories
 pub mod Places
-pub mod Told

@@ -1,10 +1,11 @@
 //! Pages of a directory or of the list of its snapshots, by rows.
 ghost use Rattle.std.specs.Prelude.{◌≡◌, ◌++◌, ◌∷◌, [], ◌≤◌, true, length, map, Ok, IfOk, OnOk, MatchResult};
 ghost use Rattle.std.specs.List.{prefix_len};
+ghost use Rattle.std.specs.Option.{option_copied};
 ghost use Rattle.hs_plain.specs.declared.state.State.{State};
 ghost use Rattle.hs_plain.specs.declared.state.FileBlocks.{FileBlocks};
 ghost use Rattle.hs_plain.specs.State.{is_lesser, with_item};
-ghost use Rattle.hs_plain.specs.Reading.{list_reply};
+ghost use Rattle.hs_plain.specs.Reading.{list_reply, list_next_reply};
 ghost use Rattle.hs_plain.specs.inside.Faults.{IsFaultOf};
 ghost use Rattle.dir_changes.specs.History.{children_at};
 ghost use Rattle.snapshot_manager.specs.Snapshots.{snaps_in};
@@ -18,11 +19,13 @@ use crate::by_rows::snapshots::snapshot_list;
 use dir_changes::{Child, DirRows};
 use hs_plain::AskFault;
 use hs_plain::answer::first_page;
+use hs_plain::pages::items_behind;
 use hs_types::{
-    Duplicate, InodeId, Item, List, Name, NoMemory, PageSize, PathText, Place, Refusal, Reply,
-    SnapId, SnapItem,
+    Duplicate, InodeId, Item, List, ListCursor, Name, NoMemory, PageSize, PathText, Place, Refusal,
+    Reply, SnapId, SnapItem,
 };
 use inode_table::{Rows, Table};
+use path_resolver::upward::stands_at;
 use snapshot_manager::Snaps;
 use std::alloc::Global;
 use std::cmp::Ordering;
@@ -158,18 +161,20 @@ fn items_at(
     }
 }
 
-/// The first page of a place that is there.
+/// A page of a place that is there, behind a name.
 fn page_at(
     alloc: Global,
     table: &Table,
     snaps: &Snaps,
     place: Place,
+    after: Option<&Name>,
     size: PageSize,
 ) -> Result<Reply, AskFault>
-    ensures { MatchResult result (λ reply. page_found (told table.now).rows snaps.now size place ≡ Ok reply) (IsFaultOf (page_found (told table.now).rows snaps.now size place)) }
+    ensures { MatchResult result (λ reply. page_found (told table.now).rows snaps.now (option_copied after.entry) size place ≡ Ok reply) (IsFaultOf (page_found (told table.now).rows snaps.now (option_copied after.entry) size place)) }
 {
     let items = items_at(alloc, table, snaps, place)?;
-    Ok(first_page(place, items, size)?)
+    let left = items_behind(after, items);
+    Ok(first_page(place, left, size)?)
 }
 
 /// The first page of a directory, or of the list of its snapshots.
@@ -183,5 +188,20 @@ pub fn list(
     ensures { (state : State FileBlocks) → StandsFor (told table.now) snaps.now state → MatchResult result (λ reply. list_reply state path.now size ≡ Ok reply) (IsFaultOf (list_reply state path.now size)) }
 {
     let place = place_of(alloc, table, snaps, path)?;
-    page_at(alloc, table, snaps, place, size)
+    page_at(alloc, table, snaps, place, None, size)
+}
+
+/// The next page of what a cursor lists.
+pub fn list_next(
+    alloc: Global,
+    table: &Table,
+    snaps: &Snaps,
+    cursor: &ListCursor,
+    size: PageSize,
+) -> Result<Reply, AskFault>
+    ensures { (state : State FileBlocks) → StandsFor (told table.now) snaps.now state → MatchResult result (λ reply. list_next_reply state cursor.now size ≡ Ok reply) (IsFaultOf (list_next_reply state cursor.now size)) }
+{
+    let place = cursor.place;
+    stands_at(table, snaps, place)?;
+    page_at(alloc, table, snaps, place, cursor.after.as_ref(), size)
 }
