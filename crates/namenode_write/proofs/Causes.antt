@@ -1,10 +1,8 @@
 -- What a call that meets the store is answered, and why it isn't done.
 use Rattle.std.proofs.Common.{◌≡◌, ℕ, true, false, ◌==◌, List, Option, None, Some, Ok, Err, IfSome, IfErr, refl, ap, sym, subst, ◌∙◌}
 use Rattle.std.specs.Prelude.{is_some, Result, IsErrAnd, IsErrOf}
-use Rattle.std.specs.List.{AllByRecursion}
-use Rattle.hs_types.specs.Blocks.{BlockMap, HoldsFile, IsFile}
+use Rattle.hs_types.specs.Blocks.{BlockMap}
 use Rattle.hs_types.specs.Refusals.{number_of}
-use Rattle.hs_types.specs.declared.ids.BlockId.{BlockId}
 use Rattle.hs_types.specs.declared.call.Call.{Call}
 use Rattle.hs_types.specs.declared.call.Call.TheVariants as calls
 use Rattle.hs_types.specs.declared.call.Place.{Place}
@@ -28,10 +26,7 @@ use Rattle.hs_plain.specs.Change.{changed_if}
 use Rattle.hs_plain.specs.Viewed.{bytes_in}
 use Rattle.hs_plain.proofs.Stands.{answer_sized, ok_stands, read_told}
 use Rattle.hs_plain.specs.Served.{is_served}
-use Rattle.namenode_write.specs.Kept.{IsFileBody, HoldsBody}
-use Rattle.namenode_write.specs.Consistent.{IsKept}
 use Rattle.namenode_write.specs.Made.{IsPlain, IsMade, IsCause, IsRefusal, fault_of}
-use Rattle.namenode_write.proofs.Files.{found_file-so, next_file-so}
 use Rattle.namenode_write.proofs.Refused.{asked_never}
 
 -- ---- why a call isn't done
@@ -45,7 +40,7 @@ pub fault-replied : {X : Type 0} (reply : Reply) (a : Asked X) (fault : AskFault
 fault-replied {X = X} reply a (Refused why) is = ap (λ (x : Asked X). replied reply x) is
 fault-replied reply a NoMemory is = tt
 
-refused-blanked : (reply : Reply) (why : Refusal) → blanked reply ≡ replies.Refused why → reply ≡ replies.Refused why
+pub refused-blanked : (reply : Reply) (why : Refusal) → blanked reply ≡ replies.Refused why → reply ≡ replies.Refused why
 refused-blanked (replies.Made id) why same = same
 refused-blanked replies.Done why same = same
 refused-blanked (replies.Bytes bytes next) why same = cc
@@ -77,10 +72,10 @@ pub err_at : {T E : Type 0} (r : Result T E) (x : E) (P : E → Type 0) → IsEr
 err_at (Ok t) x P is p = absurd is
 err_at (Err e) x P is p = subst P (sym is) p
 
-abbrev failed : {T E : Type 0} → E → Result T E
+abbrev pub failed : {T E : Type 0} → E → Result T E
 failed e = Err e
 
-same_err : {T E : Type 0} {x y : E} → failed {T = T} x ≡ Err y → x ≡ y
+pub same_err : {T E : Type 0} {x y : E} → failed {T = T} x ≡ Err y → x ≡ y
 same_err h = cc
 
 -- a refusal is no fault of the store
@@ -116,7 +111,7 @@ reads_served calls.Dirs reads uses = absurd (cc)
 reads_served (calls.Report path from to size) reads uses = absurd (cc)
 reads_served (calls.ReportNext cursor size) reads uses = absurd (cc)
 
-ok-blanked : (reply : Reply) → is_ok_reply (blanked reply) ≡ is_ok_reply reply
+pub ok-blanked : (reply : Reply) → is_ok_reply (blanked reply) ≡ is_ok_reply reply
 ok-blanked (replies.Made id) = refl
 ok-blanked replies.Done = refl
 ok-blanked (replies.Bytes bytes next) = refl
@@ -177,28 +172,3 @@ module _ (told : Option BlockMap) (whole : State FileBlocks) (plain : State (Lis
 
   pub next-store : (cursor : ReadCursor) (len : ℕ) (found : Place × FileBlocks) → next_file whole cursor.place ≡ Ok found → (error : StoreErr) (fault : AskFault) → fault ≡ fault_of error → IsPlain told whole plain → IsCause plain (calls.ReadNext cursor len) fault
   next-store cursor len found is_found = page-store (calls.ReadNext cursor len) (next_file whole cursor.place) cursor.offset len found is_found refl refl (λ files. refl)
-
--- ---- the file that is read
-
-module _ (told : Option BlockMap) (greatest : ℕ) (whole : State FileBlocks) (waiting : List BlockId) (kept : IsKept told greatest whole waiting) where
-  module _ (text : List ℕ) (found : Place × FileBlocks) (is_found : found_file whole text ≡ Ok found) where
-    pub read-file : IsFile found.1.size found.1.blocks
-    read-file = found_file-so IsFileBody whole text found kept.bare.no_snapshots kept.blocks.files.listed is_found
-
-    pub read-held : IfSome told (λ map. HoldsFile map found.1.size found.1.blocks)
-    read-held = at told kept.blocks.files.held
-      where
-        at : (o : Option BlockMap) → IfSome o (λ map. AllByRecursion (λ place. HoldsBody map place.1.body) whole.tree) → IfSome o (λ map. HoldsFile map found.1.size found.1.blocks)
-        at None held = tt
-        at (Some map) held = found_file-so (HoldsBody map) whole text found kept.bare.no_snapshots held is_found
-
-  module _ (place : Place) (found : Place × FileBlocks) (is_found : next_file whole place ≡ Ok found) where
-    pub next-file : IsFile found.1.size found.1.blocks
-    next-file = next_file-so IsFileBody whole place found kept.bare.no_snapshots kept.blocks.files.listed is_found
-
-    pub next-held : IfSome told (λ map. HoldsFile map found.1.size found.1.blocks)
-    next-held = at told kept.blocks.files.held
-      where
-        at : (o : Option BlockMap) → IfSome o (λ map. AllByRecursion (λ place. HoldsBody map place.1.body) whole.tree) → IfSome o (λ map. HoldsFile map found.1.size found.1.blocks)
-        at None held = tt
-        at (Some map) held = next_file-so (HoldsBody map) whole place found kept.bare.no_snapshots held is_found

@@ -9,7 +9,7 @@ use Rattle.hs_types.specs.declared.journal.EntryKind.TheVariants.{Accepted, Faul
 use Rattle.hs_types.specs.Faults.{Rose}
 use Rattle.hs_plain.specs.Answer.{is_store_fault}
 use Rattle.hs_plain.specs.Legal.{Said, entry_left, entry_of, leaves_entry}
-use Rattle.namenode_write.specs.Consistent.{is_faulted, fault_count}
+use Rattle.namenode_write.specs.Faulted.{is_faulted, fault_count}
 use Rattle.namenode_write.specs.Counted.{AreCounted, RisesAtMost}
 use Rattle.namenode_write.specs.Journal.{Journal}
 
@@ -59,5 +59,5 @@ counted_then faults first middle last one two = record {
 }
 
 -- over stores whose counts rise at most so often there are at most so many faulted entries
-pub few_faulted : {S : Type 0} (faults : S → ℕ) (store : S) (last : Journal S) (most : ℕ) → AreCounted faults (record { entries = []; store = store }) last → RisesAtMost most faults (faults store) → fault_count last.entries ≤ most
-few_faulted faults store last most counted rises = omega (arith, counted.rose, rises last.store)
+pub few_faulted : {S : Type 0} (faults : S → ℕ) (first last : Journal S) (most : ℕ) → first.entries ≡ [] → AreCounted faults first last → RisesAtMost most faults (faults first.store) → fault_count last.entries ≤ most
+few_faulted faults first last most empty counted rises = let none = ap fault_count empty in omega (arith, counted.rose, rises last.store, none)

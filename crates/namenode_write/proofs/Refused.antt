@@ -1,4 +1,4 @@
--- What is refused is never refused as a fault of the store.
+-- What is refused is never refused as a fault of the store, nor for want of room in the journal.
 use Rattle.std.proofs.Common.{◌≡◌, ℕ, ◌==◌, true, false, List, [], Ok, Err, refl, ap}
 use Rattle.hs_types.specs.Names.{Names}
 use Rattle.hs_types.specs.Refusals.{number_of}
@@ -42,6 +42,34 @@ own_number refusals.Gone own = refl
 own_number (refusals.Moved then_tick now_tick) own = refl
 own_number refusals.JournalFull own = refl
 own_number refusals.StoreFault own = absurd (cc)
+
+own_limit : (why : Refusal) → is_plain_reply (replies.Refused why) ≡ true → (number_of why == 22) ≡ false
+own_limit refusals.BadPath own = refl
+own_limit refusals.TooLong own = refl
+own_limit refusals.TooDeep own = refl
+own_limit refusals.Reserved own = refl
+own_limit refusals.ReadOnly own = refl
+own_limit refusals.NotFound own = refl
+own_limit refusals.NotDir own = refl
+own_limit refusals.NotFile own = refl
+own_limit refusals.Exists own = refl
+own_limit refusals.NotSnapshotName own = refl
+own_limit refusals.IsRoot own = refl
+own_limit refusals.NotEmpty own = refl
+own_limit refusals.HasSnapshots own = refl
+own_limit refusals.IntoItself own = refl
+own_limit refusals.NotSnapshottable own = refl
+own_limit refusals.Nested own = refl
+own_limit refusals.SnapshotExists own = refl
+own_limit refusals.NoSnapshot own = refl
+own_limit refusals.SnapshotLimit own = refl
+own_limit refusals.Gone own = refl
+own_limit (refusals.Moved then_tick now_tick) own = refl
+own_limit refusals.JournalFull own = absurd (cc)
+own_limit refusals.StoreFault own = refl
+
+pub asked_full : (state : State FileBlocks) (call : Call) (why : Refusal) → asked block_files state call ≡ Err why → (number_of why == 22) ≡ false
+asked_full state call why refused = own_limit why (whole_refusals_own state call why refused)
 
 pub asked_never : (state : State FileBlocks) (call : Call) (why : Refusal) → asked block_files state call ≡ Err why → (number_of why == 23) ≡ false
 asked_never state call why refused = own_number why (whole_refusals_own state call why refused)

@@ -1,6 +1,6 @@
 -- How far a store's count of faults rises with the faulted entries of a journal.
 use Rattle.std.specs.Prelude.{ℕ, ◌+◌, ◌-◌, ◌^◌, ◌<◌, ◌≤◌, min}
-use Rattle.namenode_write.specs.Consistent.{fault_count}
+use Rattle.namenode_write.specs.Faulted.{fault_count}
 use Rattle.namenode_write.specs.Journal.{Journal}
 
 -- the count rose so often, or stands at the last number of a u64

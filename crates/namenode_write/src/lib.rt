@@ -1,10 +1,9 @@
 //! A namenode: it answers calls one after the other, and its journal is their one history.
 #![tactic(auto)]
 
-mod bytes;
-mod freeing;
+pub mod limit;
 pub mod namenode;
-mod namespace;
 mod rows;
 
+pub use limit::JournalLimit;
 pub use namenode::Namenode;

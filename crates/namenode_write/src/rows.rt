@@ -1,6 +1,22 @@
-//! The calls of a namenode over a table of rows. No namenode uses them yet.
+//! The calls of a namenode over a table of rows.
+pub(crate) mod append_refusals;
+pub(crate) mod appending;
+pub(crate) mod calls;
+pub(crate) mod delete_refusals;
+pub(crate) mod deleting;
+pub(crate) mod faults;
+pub(crate) mod freeing;
+pub(crate) mod lines;
 pub(crate) mod making;
+pub(crate) mod making_nodes;
+pub(crate) mod modes;
+pub(crate) mod place;
 pub(crate) mod reading;
 pub(crate) mod refusals;
+pub(crate) mod rename_refusals;
+pub(crate) mod renaming;
 pub(crate) mod seats;
+pub(crate) mod snapshot_deleting;
+pub(crate) mod snapshot_refusals;
+pub(crate) mod snapshots;
 pub(crate) mod space;

@@ -1,7 +1,7 @@
 //! Changes of a table for which room was made.
-ghost use Rattle.std.specs.Prelude.{◌≡◌, ◌≢◌, ◌+◌, ◌^◌, ◌<◌};
+ghost use Rattle.std.specs.Prelude.{◌≡◌, ◌≢◌, ◌+◌, ◌^◌, ◌<◌, [], ◌∷◌, OnOk};
 ghost use Rattle.hs_types.specs.declared.ids.InodeId.{InodeId};
-ghost use Rattle.inode_table.specs.Ahead.{ChangeFits, IsChanged};
+ghost use Rattle.inode_table.specs.Ahead.{HasRoomFor, prepared_for, ChangeFits, IsChanged};
 ghost use Rattle.inode_table.specs.Kept.{told, CanChange, IsBare, HasInsertRoom, UsesInsert};
 ghost use Rattle.inode_table.specs.Numbered.{row_of, history_of};
 ghost use Rattle.inode_table.specs.Released.{Releasing};
@@ -9,8 +9,19 @@ ghost use Rattle.inode_table.specs.Tabled.{inserted};
 ghost use Rattle.inode_table.specs.Totals.{weight};
 
 use crate::rows::seats::Seat;
-use hs_types::{InodeId, SnapId};
+use hs_types::{InodeId, List, NoMemory, SnapId};
 use inode_table::{Change, Freed, Rows, Table};
+use std::alloc::Global;
+
+/// Makes room for an insertion, and for three changes of a row. Afterwards the next release can't want memory either.
+pub(crate) fn prepare_seat(alloc: Global, table: &mut Table, seat: Seat) -> Result<(), NoMemory>
+    ensures same { told table.new ≡ told table.old }
+    ensures room { OnOk result (HasRoomFor (prepared_for (seat.id ∷ []) (λ id. seat.need.0)) table.new) }
+{
+    let mut ids = List::new(alloc);
+    ids.push(seat.id)?;
+    table.prepare(&ids)
+}
 
 /// A change for which there is room.
 pub(crate) fn change_ready(table: &mut Table, seat: Seat, tick: u64, what: Change)

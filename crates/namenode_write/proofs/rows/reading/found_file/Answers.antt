@@ -8,13 +8,12 @@ use Rattle.inode_table.specs.Kept.{told}
 use Rattle.namenode_write.proofs.RowFiles.{found-so, match_err}
 use Rattle.namenode_write.proofs.rows.reading.found_file.Goals as goal
 
-pub returns-in_err-size-clause-found : goal.returns-in_err-size-clause-found
-returns-in_err-size-clause-found c = λ state all.
-    match_err c.from_residual-in_err-size.result (Refused c.in_err-size.field-0.0) _ (IsFaultOf (plain_found_file state c.args.text.now)) c.from_residual-in_err-size.ensures.1
+pub returns-in_err-_file-clause-found : goal.returns-in_err-_file-clause-found
+returns-in_err-_file-clause-found c = λ state all.
+    match_err c.from_residual-in_err-_file.result (Refused c.in_err-_file.field-0.0) _ (IsFaultOf (plain_found_file state c.args.text.now)) c.from_residual-in_err-_file.ensures.1
     (found-so (told c.args.table.now) c.args.snaps.now state all c.args.text.now c.in_ok-path.path c.in_ok-place.place c.in_ok-path.ensures (sym (c.resolve.ensures state all) ∙ c.in_ok-place.was)
-    ∙ ap (λ (a : Asked FileBlocks). a >>= λ file. Ok (c.in_ok-place.place, file)) c.in_err-size.ensures)
+    ∙ ap (λ (a : Asked FileBlocks). a >>= λ file. Ok (c.in_ok-place.place, file)) c.in_err-_file.ensures)
 
 pub returns-clause-found : goal.returns-clause-found
 returns-clause-found c = λ state all.
     found-so (told c.args.table.now) c.args.snaps.now state all c.args.text.now c.in_ok-path.path c.in_ok-place.place c.in_ok-path.ensures (sym (c.resolve.ensures state all) ∙ c.in_ok-place.was)
-    ∙ ap (λ (a : Asked FileBlocks). a >>= λ file. Ok (c.in_ok-place.place, file)) c.in_ok-size.ensures
