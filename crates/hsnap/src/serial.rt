@@ -3,7 +3,7 @@ ghost use Rattle.std.specs.Prelude.{◌≡◌, ◌≤◌, ◌<◌, ◌↔◌, �
 ghost use Rattle.std.specs.List.{list_all};
 ghost use Rattle.hs_io.specs.Bytes.{Takes, TakesSome, GivesWithin, GivesPast};
 ghost use Rattle.hs_types.specs.Faults.{Rose};
-ghost use Rattle.namenode_write.specs.Consistent.{fault_count};
+ghost use Rattle.namenode_write.specs.Faulted.{fault_count};
 ghost use Rattle.namenode_write.specs.Counted.{RisesAtMost};
 ghost use Rattle.script_text.specs.Scripts.{meaning_of};
 ghost use Rattle.script_text.specs.Today.{is_line_today};

@@ -9,11 +9,10 @@ use Rattle.hs_types.specs.declared.journal.Entry.{Entry}
 use Rattle.hs_types.specs.declared.reply.Answered.{Answered}
 use Rattle.hs_plain.specs.Answer.{answer, claimed, is_modifying, uses_store, is_shared, is_ok_reply, is_store_fault, is_plain_reply, is_journal_full, origin_of}
 use Rattle.hs_plain.proofs.Answers.{answers_own}
-use Rattle.namenode_write.proofs.Grown.{machine_not_full}
 use Rattle.hs_plain.specs.Replay.{plain_after}
 use Rattle.hs_plain.specs.Legal.{IsLegalCall, leaves_entry, entry_of, entry_left}
 use Rattle.hs_types.specs.declared.ids.CallerId.{CallerId}
-use Rattle.script_runner.proofs.Faultless.{answer_faultless}
+use Rattle.script_runner.proofs.Faultless.{answer_faultless, machine_not_full}
 
 left_none : (fault modifying stored ok : Bool) → fault ≡ false → not (modifying || stored) ≡ true → (fault || (modifying && ok)) ≡ false
 left_none true modifying stored ok e shared = absurd (cc)

@@ -1,6 +1,6 @@
 -- What comes behind an answer: no page of 1,000 entries has a cursor in a small state, and a read goes on at a greater offset.
 use Rattle.std.proofs.Common.{◌≡◌, ℕ, suc, ◌+◌, ◌-◌, ◌^◌, ◌<◌, ◌≤◌, nat_le, Bool, true, false, cond, ◌==◌, Option, Some, None, Ok, Err, List, [], ◌∷◌, length, take, refl, ap, sym, subst, arith}
-use Rattle.std.specs.List.{cons_option, AllByRecursion}
+use Rattle.std.specs.List.{cons_option, filter_map, AllByRecursion}
 use Rattle.std.proofs.lemmas.Bool.Decides.{nat_tests}
 use Rattle.hs_types.specs.Names.{Names}
 use Rattle.hs_types.specs.Paths.{path_of}
@@ -15,7 +15,8 @@ use Rattle.hs_types.specs.declared.call.Call.{Call}
 use Rattle.hs_types.specs.declared.call.Call.TheVariants as calls
 use Rattle.hs_types.specs.declared.call.ReadCursor.{ReadCursor}
 use Rattle.hs_types.specs.declared.reply.Reply.{Reply}
-use Rattle.hs_types.specs.declared.reply.Reply.TheVariants.{Done, Stat, Refused}
+use Rattle.hs_types.specs.declared.name.SnapItem.{SnapItem}
+use Rattle.hs_types.specs.declared.reply.Reply.TheVariants.{Done, Stat, Snaps, Refused}
 use Rattle.hs_plain.specs.declared.state.Member.{Member}
 use Rattle.hs_plain.specs.declared.state.Node.{Node}
 use Rattle.hs_plain.specs.declared.state.State.{State}
@@ -26,7 +27,7 @@ use Rattle.hs_plain.specs.State.{resolve, items_of, items_at, is_snapshottable, 
 use Rattle.hs_plain.specs.Answer.{answer, reply_to, replied, made_reply, snap_made_reply, is_modifying}
 use Rattle.hs_plain.specs.Snapshotting.{allow_at, disallow_at, snap_at, snap_del_at, snap_ren_at}
 use Rattle.hs_plain.specs.Modifying.{mkdir_at, create_at, append_at, delete_at, rename_at, set_mode_at}
-use Rattle.hs_plain.specs.Reading.{node_stat, list_stat, stat_at, page_at, found_file, next_file}
+use Rattle.hs_plain.specs.Reading.{node_stat, list_stat, stat_at, page_at, found_file, next_file, snapshottable_at, snap_item}
 use Rattle.hs_plain.specs.Pages.{page_of, last_name, next_read}
 use Rattle.run_output.specs.Calls.{items_behind, bytes_behind, behind}
 use Rattle.script_runner.specs.Pages.{has_greatest_page, IsGreatest, IsWithin}
@@ -122,6 +123,9 @@ module _ (P : Reply → Type 0) (refused : (why : Refusal) → P (Refused why)) 
     stat_has : (state : State (List ℕ)) (path : List ℕ) → P (answer state (calls.Stat path))
     stat_has state path = at_place_has state path (stat_at plain_files state) (stat_at_has state)
 
+  snaps_has : (state : State (List ℕ)) (path : List ℕ) → ((dir : InodeId) (list : List SnapItem) → P (Snaps dir list)) → P (answer state (calls.Snaps path))
+  snaps_has state path snaps = then_has (snapshottable_at state path) (λ dir. Ok (Snaps dir (filter_map (snap_item dir) state.members))) (λ dir. snaps dir (filter_map (snap_item dir) state.members))
+
 -- ---- no page of 1,000 items has a cursor in a small state
 
 IsEnd : Reply → Type 0
@@ -192,14 +196,14 @@ answer_greatest state small (calls.Read path offset len) greatest = page_greates
 answer_greatest state small (calls.ReadNext cursor len) greatest = page_greatest (next_file state cursor.place) cursor.offset len
 answer_greatest state small (calls.Stat path) greatest = end_greatest (answer state (calls.Stat path)) (stat_has IsEnd (λ why. refl) (λ id is_dir mode stamp size. refl) state path)
 answer_greatest state small (calls.List path size) greatest = end_greatest (answer state (calls.List path size)) (size_list_ends state small path size greatest)
-answer_greatest state small (calls.Allow path) greatest = absurd (cc)
-answer_greatest state small (calls.Disallow path) greatest = absurd (cc)
-answer_greatest state small (calls.Snap path name) greatest = absurd (cc)
-answer_greatest state small (calls.SnapDel path name) greatest = absurd (cc)
-answer_greatest state small (calls.SnapRen path old new) greatest = absurd (cc)
+answer_greatest state small (calls.Allow path) greatest = end_greatest (answer state (calls.Allow path)) (change_ends state (calls.Allow path) refl)
+answer_greatest state small (calls.Disallow path) greatest = end_greatest (answer state (calls.Disallow path)) (change_ends state (calls.Disallow path) refl)
+answer_greatest state small (calls.Snap path name) greatest = end_greatest (answer state (calls.Snap path name)) (change_ends state (calls.Snap path name) refl)
+answer_greatest state small (calls.SnapDel path name) greatest = end_greatest (answer state (calls.SnapDel path name)) (change_ends state (calls.SnapDel path name) refl)
+answer_greatest state small (calls.SnapRen path old new) greatest = end_greatest (answer state (calls.SnapRen path old new)) (change_ends state (calls.SnapRen path old new) refl)
 answer_greatest state small (calls.ListNext cursor size) greatest = absurd (cc)
-answer_greatest state small (calls.Snaps path) greatest = absurd (cc)
-answer_greatest state small calls.Dirs greatest = absurd (cc)
+answer_greatest state small (calls.Snaps path) greatest = end_greatest (answer state (calls.Snaps path)) (snaps_has IsEnd (λ why. refl) state path (λ dir list. refl))
+answer_greatest state small calls.Dirs greatest = tt
 answer_greatest state small (calls.Report path from to size) greatest = absurd (cc)
 answer_greatest state small (calls.ReportNext cursor size) greatest = absurd (cc)
 
@@ -278,13 +282,13 @@ answer_falls state small (calls.ReadNext cursor len) greatest within =
     next_page_falls (next_file state cursor.place) cursor len (omega (arith, is)) within
 answer_falls state small (calls.Stat path) greatest within = ended_falls (answer state (calls.Stat path)) (2 + 2 ^ 64) (stat_has IsEnd (λ why. refl) (λ id is_dir mode stamp size. refl) state path) (omega arith)
 answer_falls state small (calls.List path size) greatest within = ended_falls (answer state (calls.List path size)) (2 + 2 ^ 64) (size_list_ends state small path size greatest) (omega arith)
-answer_falls state small (calls.Allow path) greatest within = absurd (cc)
-answer_falls state small (calls.Disallow path) greatest within = absurd (cc)
-answer_falls state small (calls.Snap path name) greatest within = absurd (cc)
-answer_falls state small (calls.SnapDel path name) greatest within = absurd (cc)
-answer_falls state small (calls.SnapRen path old new) greatest within = absurd (cc)
+answer_falls state small (calls.Allow path) greatest within = ended_falls (answer state (calls.Allow path)) (2 + 2 ^ 64) (change_ends state (calls.Allow path) refl) (omega arith)
+answer_falls state small (calls.Disallow path) greatest within = ended_falls (answer state (calls.Disallow path)) (2 + 2 ^ 64) (change_ends state (calls.Disallow path) refl) (omega arith)
+answer_falls state small (calls.Snap path name) greatest within = ended_falls (answer state (calls.Snap path name)) (2 + 2 ^ 64) (change_ends state (calls.Snap path name) refl) (omega arith)
+answer_falls state small (calls.SnapDel path name) greatest within = ended_falls (answer state (calls.SnapDel path name)) (2 + 2 ^ 64) (change_ends state (calls.SnapDel path name) refl) (omega arith)
+answer_falls state small (calls.SnapRen path old new) greatest within = ended_falls (answer state (calls.SnapRen path old new)) (2 + 2 ^ 64) (change_ends state (calls.SnapRen path old new) refl) (omega arith)
 answer_falls state small (calls.ListNext cursor size) greatest within = absurd (cc)
-answer_falls state small (calls.Snaps path) greatest within = absurd (cc)
-answer_falls state small calls.Dirs greatest within = absurd (cc)
+answer_falls state small (calls.Snaps path) greatest within = ended_falls (answer state (calls.Snaps path)) (2 + 2 ^ 64) (snaps_has IsEnd (λ why. refl) state path (λ dir list. refl)) (omega arith)
+answer_falls state small calls.Dirs greatest within = omega arith
 answer_falls state small (calls.Report path from to size) greatest within = absurd (cc)
 answer_falls state small (calls.ReportNext cursor size) greatest within = absurd (cc)

@@ -6,6 +6,9 @@ use Rattle.hs_types.specs.declared.ids.CallerId.{CallerId}
 use Rattle.hs_types.specs.declared.journal.Entry.{Entry}
 use Rattle.script_runner.specs.declared.client.Client.{Client}
 use Rattle.hs_plain.specs.Replay.{is_proper}
+use Rattle.namenode_write.specs.Counted.{AreCounted, RisesAtMost}
+use Rattle.namenode_write.specs.Faulted.{fault_count}
+use Rattle.namenode_write.specs.Journal.{Journal}
 use Rattle.script_text.specs.declared.script.ScriptLine.{ScriptLine}
 use Rattle.script_text.specs.declared.script.Section.TheVariants as sections
 use Rattle.run_output.specs.declared.ran.End.{End}
@@ -23,6 +26,12 @@ use Rattle.script_runner.proofs.TurnedRuns.{serial_source, serial_target, serial
 from_unnumbered : (st dt : Bool) (c : ℕ) (begun : World) (clients : List (List LineRun)) (new : World) → AreClientsRun st dt c (unnumbered begun.source begun.target) clients new → AreClientsRun st dt c begun clients new
 from_unnumbered st dt c begun [] new made = made
 from_unnumbered st dt c begun (client ∷ clients) new made = made
+
+-- over stores whose counts rise at most so often there are at most so many faulted entries
+pub few_faulted : {S : Type 0} (faults : S → ℕ) (first last : Journal S) (most : ℕ) → first.entries ≡ [] → AreCounted faults first last → RisesAtMost most faults (faults first.store) → fault_count last.entries ≤ most
+few_faulted faults first last most new counted rises =
+    let none : fault_count first.entries ≡ 0 = ap fault_count new in
+    omega (arith, none, counted.rose, rises last.store)
 
 -- two new namenodes, and a caller without calls
 pub fresh_is : (source target : List Entry) (client : Client) (caller : CallerId) → source ≡ [] → target ≡ [] → client ≡ record { caller = caller; source_calls = 0; target_calls = 0 } → world source target client ≡ fresh

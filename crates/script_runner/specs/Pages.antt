@@ -1,20 +1,21 @@
 -- What only private contracts and proofs use: the calls of one command.
-use Rattle.std.specs.Prelude.{◌≡◌, ℕ, ◌+◌, ◌^◌, ◌<◌, ◌≤◌, Bool, true, ◌==◌, List, [], ◌∷◌, map, length, Option, Some, None, ⊤}
+use Rattle.std.specs.Prelude.{◌≡◌, ℕ, ◌+◌, ◌^◌, ◌<◌, ◌≤◌, Bool, true, false, not, ◌==◌, List, [], ◌∷◌, map, length, Option, Some, None, ⊤}
 use Rattle.hs_types.specs.declared.call.Call.{Call}
 use Rattle.hs_types.specs.declared.call.Call.TheVariants as calls
 use Rattle.hs_types.specs.declared.journal.Entry.{Entry}
 use Rattle.hs_types.specs.declared.reply.Answered.{Answered}
 use Rattle.hs_plain.specs.Legal.{Said}
-use Rattle.hs_plain.specs.Served.{is_served}
+use Rattle.hs_plain.specs.Served.{is_report}
 use Rattle.script_text.specs.declared.command.Command.{Command}
 use Rattle.run_output.specs.Calls.{behind, Kept, AreOf}
 use Rattle.script_runner.specs.InTurn.{AreNext}
 
--- the call is served; a listing asks for 1,000 entries, and a further page of a file for 65,536 bytes
+-- no report, and no further page of a listing; a first one asks for 1,000 entries, and a further page of a file for 65,536 bytes
 abbrev pub has_greatest_page : Call → Bool
 has_greatest_page (calls.List path size) = size == 1000
+has_greatest_page (calls.ListNext cursor size) = false
 has_greatest_page (calls.ReadNext cursor len) = len == 65536
-has_greatest_page call = is_served call
+has_greatest_page call = not (is_report call)
 
 -- the next call asks for the greatest page
 abbrev pub IsGreatest : Option Call → Type 0

@@ -4,7 +4,7 @@ ghost use Rattle.std.specs.Option.{option_to_list};
 ghost use Rattle.hs_types.specs.Limits.{journal_limit};
 ghost use Rattle.hs_types.specs.declared.ids.CallerId.{CallerId};
 ghost use Rattle.hs_plain.specs.Answer.{is_shared};
-ghost use Rattle.hs_plain.specs.Served.{is_served};
+ghost use Rattle.hs_plain.specs.Served.{is_report};
 ghost use Rattle.hs_plain.specs.Legal.{IsLegalCall, entry_left, leaves_entry};
 ghost use Rattle.namenode_write.specs.Counted.{AreCounted};
 ghost use Rattle.script_runner.specs.InTurn.{IsNext};
@@ -39,14 +39,14 @@ impl Client {
 /// Answers a call that changes nothing and uses no store, and hands it back.
 fn ask<B: BlockStore>(alloc: Global, namenode: &Namenode<B>, call: Call) -> Answered
     requires shared { is_shared call ≡ true }
-    requires served { is_served call ≡ true }
+    requires no_report { is_report call ≡ false }
     ensures legal { (tells : Bool) (caller : CallerId) (seq : ℕ) → IsLegalCall tells journal_limit namenode.now.entries caller seq call result }
     ensures place { result.position ≡ length namenode.now.entries }
     ensures none { leaves_entry call result.reply ≡ false }
 {
     let position = namenode.tick();
     Answered {
-        reply: namenode_read::ask(alloc, namenode.state(), position, &call),
+        reply: namenode_read::ask(alloc, namenode.table(), namenode.snaps(), position, &call),
         position,
         back: Some(call),
     }
@@ -60,10 +60,12 @@ fn make_call<B: BlockStore>(
     seq: u64,
     call: Call,
 ) -> Answered
-    requires { is_served call ≡ true }
+    requires no_report { is_report call ≡ false }
+    requires usual { namenode.old.limit ≡ journal_limit }
     ensures legal { IsLegalCall (is_some (B.blocks namenode.old.store)) journal_limit namenode.new.entries caller seq call result }
     ensures place { result.position ≡ length namenode.old.entries }
     ensures appended { namenode.new.entries ≡ namenode.old.entries ++ option_to_list (entry_left caller (record { seq = seq; call = call; told = result })) }
+    ensures limit { namenode.new.limit ≡ namenode.old.limit }
     ensures tells { is_some (B.blocks namenode.new.store) ≡ is_some (B.blocks namenode.old.store) }
     ensures counted { AreCounted B.faults namenode.old namenode.new }
 {
@@ -82,8 +84,10 @@ pub(crate) fn make_next<B: BlockStore>(
     seq: &mut u64,
     call: Call,
 ) -> Answered
-    requires { is_served call ≡ true }
+    requires no_report { is_report call ≡ false }
+    requires usual { namenode.old.limit ≡ journal_limit }
     ensures made { IsNext (is_some (B.blocks namenode.old.store)) caller.0 namenode.old.entries seq.old namenode.new.entries (record { seq = seq.new; call = call; told = result }) }
+    ensures limit { namenode.new.limit ≡ namenode.old.limit }
     ensures tells { is_some (B.blocks namenode.new.store) ≡ is_some (B.blocks namenode.old.store) }
     ensures counted { AreCounted B.faults namenode.old namenode.new }
 {

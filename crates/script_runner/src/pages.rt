@@ -1,7 +1,8 @@
 //! The calls of one command.
-ghost use Rattle.std.specs.Prelude.{◌≡◌, ◌≤◌, ◌<◌, ◌^◌, Bool, true, Some, is_some, length, IfOk, OnOk};
+ghost use Rattle.std.specs.Prelude.{◌≡◌, ◌≤◌, ◌<◌, ◌^◌, Bool, true, false, Some, is_some, length, IfOk, OnOk};
 ghost use Rattle.hs_types.specs.declared.call.Call.TheVariants as calls;
-ghost use Rattle.hs_plain.specs.Served.{is_served};
+ghost use Rattle.hs_types.specs.Limits.{journal_limit};
+ghost use Rattle.hs_plain.specs.Served.{is_report};
 ghost use Rattle.namenode_write.specs.Counted.{AreCounted};
 ghost use Rattle.script_text.specs.Today.{is_command_today, is_pages_today};
 ghost use Rattle.run_output.specs.Calls.{behind as plain_behind, first_call as plain_first_call, IsOne, AreAllPages};
@@ -102,10 +103,12 @@ fn ask_pages<B: BlockStore>(
     page: PageSize,
     first: Call,
 ) -> Result<List<Answered>, NoMemory>
+    requires usual { namenode.old.limit ≡ journal_limit }
     requires few { length namenode.old.entries ≤ 999 }
     requires page { page ≡ 1000 }
     requires greatest { has_greatest_page first ≡ true }
     ensures ran { IfOk result (AreRun (is_some (B.blocks namenode.old.store)) caller.0 namenode.old.entries seq.old namenode.new.entries seq.new (AreAllPages 1000 (Some first))) }
+    ensures limit { namenode.new.limit ≡ namenode.old.limit }
     ensures tells { is_some (B.blocks namenode.new.store) ≡ is_some (B.blocks namenode.old.store) }
     ensures counted { OnOk result (AreCounted B.faults namenode.old namenode.new) }
 {
@@ -127,8 +130,10 @@ fn ask_once<B: BlockStore>(
     seq: &mut u64,
     call: Call,
 ) -> Result<List<Answered>, NoMemory>
-    requires served { is_served call ≡ true }
+    requires no_report { is_report call ≡ false }
+    requires usual { namenode.old.limit ≡ journal_limit }
     ensures ran { IfOk result (AreRun (is_some (B.blocks namenode.old.store)) caller.0 namenode.old.entries seq.old namenode.new.entries seq.new (IsOne (Some call))) }
+    ensures limit { namenode.new.limit ≡ namenode.old.limit }
     ensures tells { is_some (B.blocks namenode.new.store) ≡ is_some (B.blocks namenode.old.store) }
     ensures counted { OnOk result (AreCounted B.faults namenode.old namenode.new) }
 {
@@ -146,10 +151,12 @@ pub(crate) fn ask_command<B: BlockStore>(
     page: PageSize,
     command: Command,
 ) -> Result<List<Answered>, NoMemory>
+    requires usual { namenode.old.limit ≡ journal_limit }
     requires few { length namenode.old.entries ≤ 999 }
     requires page { page ≡ 1000 }
     requires today { is_command_today command ≡ true }
     ensures ran { IfOk result (AreRun (is_some (B.blocks namenode.old.store)) caller.0 namenode.old.entries seq.old namenode.new.entries seq.new (AreCommands command)) }
+    ensures limit { namenode.new.limit ≡ namenode.old.limit }
     ensures tells { is_some (B.blocks namenode.new.store) ≡ is_some (B.blocks namenode.old.store) }
     ensures counted { OnOk result (AreCounted B.faults namenode.old namenode.new) }
 {

@@ -2,6 +2,7 @@
 ghost use Rattle.std.specs.Prelude.{◌≡◌, ◌≤◌, ◌+◌, ◌++◌, ◌∷◌, [], true, false, if◌then◌else◌, is_some, length, IfOk, OnOk};
 ghost use Rattle.std.specs.Option.{option_to_list};
 ghost use Rattle.std.specs.List.{list_all};
+ghost use Rattle.hs_types.specs.Limits.{journal_limit};
 ghost use Rattle.namenode_write.specs.Counted.{AreCounted};
 ghost use Rattle.script_text.specs.Today.{is_command_today, is_line_today};
 ghost use Rattle.run_output.specs.Calls.{side_of as plain_side_of};
@@ -50,10 +51,14 @@ fn run_command<B: BlockStore>(
 ) -> Result<List<Answered>, NoMemory>
     requires few_source { length nodes.old.source.entries ≤ 999 }
     requires few_target { length nodes.old.target.entries ≤ 999 }
+    requires usual_source { nodes.old.source.limit ≡ journal_limit }
+    requires usual_target { nodes.old.target.limit ≡ journal_limit }
     requires page { page ≡ 1000 }
     requires today { is_command_today command ≡ true }
     ensures ran { IfOk result (IsCommandRun (is_some (B.blocks nodes.old.source.store)) (is_some (B.blocks nodes.old.target.store)) client.old.caller.0 (world nodes.old.source.entries nodes.old.target.entries client.old) (world nodes.new.source.entries nodes.new.target.entries client.new) command) }
     ensures caller { client.new.caller ≡ client.old.caller }
+    ensures source_limit { nodes.new.source.limit ≡ nodes.old.source.limit }
+    ensures target_limit { nodes.new.target.limit ≡ nodes.old.target.limit }
     ensures source_tells { is_some (B.blocks nodes.new.source.store) ≡ is_some (B.blocks nodes.old.source.store) }
     ensures target_tells { is_some (B.blocks nodes.new.target.store) ≡ is_some (B.blocks nodes.old.target.store) }
     ensures source_counted { OnOk result (AreCounted B.faults nodes.old.source nodes.new.source) }
@@ -100,10 +105,14 @@ fn run_line<B: BlockStore>(
 ) -> Result<LogItem, NoMemory>
     requires few_source { length nodes.old.source.entries ≤ 999 }
     requires few_target { length nodes.old.target.entries ≤ 999 }
+    requires usual_source { nodes.old.source.limit ≡ journal_limit }
+    requires usual_target { nodes.old.target.limit ≡ journal_limit }
     requires page { page ≡ 1000 }
     requires today { is_line_today line ≡ true }
     ensures ran { IfOk result (IsLineRun (is_some (B.blocks nodes.old.source.store)) (is_some (B.blocks nodes.old.target.store)) client.old.caller.0 (world nodes.old.source.entries nodes.old.target.entries client.old) (world nodes.new.source.entries nodes.new.target.entries client.new) line) }
     ensures caller { client.new.caller ≡ client.old.caller }
+    ensures source_limit { nodes.new.source.limit ≡ nodes.old.source.limit }
+    ensures target_limit { nodes.new.target.limit ≡ nodes.old.target.limit }
     ensures source_tells { is_some (B.blocks nodes.new.source.store) ≡ is_some (B.blocks nodes.old.source.store) }
     ensures target_tells { is_some (B.blocks nodes.new.target.store) ≡ is_some (B.blocks nodes.old.target.store) }
     ensures source_counted { OnOk result (AreCounted B.faults nodes.old.source nodes.new.source) }
@@ -161,6 +170,8 @@ fn run_section<B: BlockStore>(
     rest: &mut VecDeque<ScriptLine>,
 ) -> Result<List<LogItem>, NoMemory>
     requires room { HasRoom nodes.old.source.entries nodes.old.target.entries rest.old.items }
+    requires usual_source { nodes.old.source.limit ≡ journal_limit }
+    requires usual_target { nodes.old.target.limit ≡ journal_limit }
     requires page { page ≡ 1000 }
     requires today { list_all is_line_today rest.old.items ≡ true }
     ensures ran { IfOk result (IsSectionRun (is_some (B.blocks nodes.old.source.store)) (is_some (B.blocks nodes.old.target.store)) client.old.caller.0 section (world nodes.old.source.entries nodes.old.target.entries client.old) (world nodes.new.source.entries nodes.new.target.entries client.new) rest.old.items rest.new.items) }
@@ -168,6 +179,8 @@ fn run_section<B: BlockStore>(
     ensures room { OnOk result (HasRoom nodes.new.source.entries nodes.new.target.entries rest.new.items) }
     ensures today { OnOk result (list_all is_line_today rest.new.items ≡ true) }
     ensures caller { client.new.caller ≡ client.old.caller }
+    ensures source_limit { nodes.new.source.limit ≡ nodes.old.source.limit }
+    ensures target_limit { nodes.new.target.limit ≡ nodes.old.target.limit }
     ensures source_tells { is_some (B.blocks nodes.new.source.store) ≡ is_some (B.blocks nodes.old.source.store) }
     ensures target_tells { is_some (B.blocks nodes.new.target.store) ≡ is_some (B.blocks nodes.old.target.store) }
     ensures source_counted { OnOk result (AreCounted B.faults nodes.old.source nodes.new.source) }
@@ -192,12 +205,16 @@ fn run_client<B: BlockStore>(
     rest: &mut VecDeque<ScriptLine>,
 ) -> Result<ClientLog, NoMemory>
     requires room { HasRoom nodes.old.source.entries nodes.old.target.entries rest.old.items }
+    requires usual_source { nodes.old.source.limit ≡ journal_limit }
+    requires usual_target { nodes.old.target.limit ≡ journal_limit }
     requires page { page ≡ 1000 }
     requires today { list_all is_line_today rest.old.items ≡ true }
     ensures ran { IfOk result (IsClientRun (is_some (B.blocks nodes.old.source.store)) (is_some (B.blocks nodes.old.target.store)) number nodes.old.source.entries nodes.old.target.entries nodes.new.source.entries nodes.new.target.entries rest.old.items rest.new.items) }
     ensures past { OnOk result (is_past (Section.Client number) rest.new.items ≡ true) }
     ensures room { OnOk result (HasRoom nodes.new.source.entries nodes.new.target.entries rest.new.items) }
     ensures today { OnOk result (list_all is_line_today rest.new.items ≡ true) }
+    ensures source_limit { nodes.new.source.limit ≡ nodes.old.source.limit }
+    ensures target_limit { nodes.new.target.limit ≡ nodes.old.target.limit }
     ensures source_tells { is_some (B.blocks nodes.new.source.store) ≡ is_some (B.blocks nodes.old.source.store) }
     ensures target_tells { is_some (B.blocks nodes.new.target.store) ≡ is_some (B.blocks nodes.old.target.store) }
     ensures source_counted { OnOk result (AreCounted B.faults nodes.old.source nodes.new.source) }
@@ -220,6 +237,8 @@ fn run_clients<B: BlockStore>(
 ) -> Result<(), NoMemory>
     requires few { clients ≤ 16 }
     requires room { HasRoom nodes.old.source.entries nodes.old.target.entries rest.old.items }
+    requires usual_source { nodes.old.source.limit ≡ journal_limit }
+    requires usual_target { nodes.old.target.limit ≡ journal_limit }
     requires page { page ≡ 1000 }
     requires today { list_all is_line_today rest.old.items ≡ true }
     requires order { are_ordered clients 1 rest.old.items ≡ true }
@@ -227,6 +246,8 @@ fn run_clients<B: BlockStore>(
     ensures room { OnOk result (HasRoom nodes.new.source.entries nodes.new.target.entries rest.new.items) }
     ensures today { OnOk result (list_all is_line_today rest.new.items ≡ true) }
     ensures order { OnOk result (are_ordered clients (clients + 1) rest.new.items ≡ true) }
+    ensures source_limit { nodes.new.source.limit ≡ nodes.old.source.limit }
+    ensures target_limit { nodes.new.target.limit ≡ nodes.old.target.limit }
     ensures source_tells { is_some (B.blocks nodes.new.source.store) ≡ is_some (B.blocks nodes.old.source.store) }
     ensures target_tells { is_some (B.blocks nodes.new.target.store) ≡ is_some (B.blocks nodes.old.target.store) }
     ensures source_counted { OnOk result (AreCounted B.faults nodes.old.source nodes.new.source) }
@@ -252,10 +273,14 @@ pub(crate) fn run_sections<B: BlockStore>(
     requires new_target { nodes.old.target.entries ≡ [] }
     requires few { clients ≤ 16 }
     requires few_lines { length rest.old.items ≤ 1000 }
+    requires usual_source { nodes.old.source.limit ≡ journal_limit }
+    requires usual_target { nodes.old.target.limit ≡ journal_limit }
     requires page { page ≡ 1000 }
     requires today { list_all is_line_today rest.old.items ≡ true }
     requires order { are_ordered clients 0 rest.old.items ≡ true }
     ensures ran { IfOk result (AreSectionsRun (is_some (B.blocks nodes.old.source.store)) (is_some (B.blocks nodes.old.target.store)) clients rest.old.items nodes.new.source.entries nodes.new.target.entries) }
+    ensures source_limit { nodes.new.source.limit ≡ nodes.old.source.limit }
+    ensures target_limit { nodes.new.target.limit ≡ nodes.old.target.limit }
     ensures source_tells { is_some (B.blocks nodes.new.source.store) ≡ is_some (B.blocks nodes.old.source.store) }
     ensures target_tells { is_some (B.blocks nodes.new.target.store) ≡ is_some (B.blocks nodes.old.target.store) }
     ensures source_counted { OnOk result (AreCounted B.faults nodes.old.source nodes.new.source) }

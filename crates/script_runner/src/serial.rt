@@ -3,14 +3,14 @@ ghost use Rattle.std.specs.Prelude.{◌≡◌, ◌≤◌, ℕ, [], true, is_some
 ghost use Rattle.std.specs.List.{list_all};
 ghost use Rattle.script_text.specs.Today.{is_line_today};
 ghost use Rattle.run_output.specs.Run.{IsEndOf, IsRunInTurn};
-ghost use Rattle.namenode_write.specs.Consistent.{fault_count};
+ghost use Rattle.namenode_write.specs.Faulted.{fault_count};
 ghost use Rattle.namenode_write.specs.Counted.{RisesAtMost};
 ghost use Rattle.script_text.specs.Order.{are_ordered};
 
 use crate::sections::{Nodes, run_sections};
 use block_store::BlockStore;
 use hs_types::{NoMemory, PageSize};
-use namenode_write::Namenode;
+use namenode_write::{JournalLimit, Namenode};
 use run_output::{End, Ran, Status};
 use script_text::Script;
 use std::alloc::Global;
@@ -66,8 +66,8 @@ pub fn serial_script<B: BlockStore>(
 {
     let clients = script.clients;
     let mut rest = VecDeque::from_vec(script.into_lines());
-    let source = Namenode::new(alloc, source_blocks)?;
-    let target = Namenode::new(alloc, target_blocks)?;
+    let source = Namenode::new(alloc, source_blocks, JournalLimit::usual())?;
+    let target = Namenode::new(alloc, target_blocks, JournalLimit::usual())?;
     let mut nodes = Nodes { source, target };
     let logs = run_sections(alloc, &mut nodes, options.page, clients, &mut rest)?;
     let source_end = end_of(&nodes.source)?;

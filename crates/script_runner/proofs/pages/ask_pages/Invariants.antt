@@ -9,6 +9,7 @@ use Rattle.script_runner.proofs.pages.ask_pages.Given as goal
 abbrev pub invariant-loop-next : goal.invariant-loop-next
 invariant-loop-next g l = record {
   ran : ArePagesTo (is_some (g.B.BlockStore.blocks l.initial.namenode.store)) l.fn.caller.0 l.initial.namenode.entries l.initial.seq l.namenode.entries l.seq l.fn.first l.replies.items l.next;
+  limit : l.namenode.limit ≡ l.initial.namenode.limit;
   tells : is_some (g.B.BlockStore.blocks l.namenode.store) ≡ is_some (g.B.BlockStore.blocks l.initial.namenode.store);
   counted : AreCounted g.B.BlockStore.faults l.initial.namenode l.namenode;
 }

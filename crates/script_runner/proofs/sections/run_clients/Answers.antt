@@ -18,6 +18,8 @@ loop-index-preserved g c = record {
   order =
       section_order c.args.clients c.requires.few (sections.Client (c.loop-index.index + 1)) c.in_ok-log.ensures.ran.runs c.loop-index.rest.items c.run_client.new.rest.items
       (client_among c.args.clients c.loop-index.index c.loop-index-test.true) c.in_ok-log.ensures.ran.lines c.in_ok-log.ensures.ran.of_section c.in_ok-log.ensures.past c.loop-index.invariant.order;
+  source_limit = c.run_client.ensures.source_limit ∙ c.loop-index.invariant.source_limit;
+  target_limit = c.run_client.ensures.target_limit ∙ c.loop-index.invariant.target_limit;
   source_tells = c.run_client.ensures.source_tells ∙ c.loop-index.invariant.source_tells;
   target_tells = c.run_client.ensures.target_tells ∙ c.loop-index.invariant.target_tells;
   source_counted = counted_then g.B.BlockStore.faults c.args.nodes.now.source c.loop-index.nodes.source c.run_client.new.nodes.source c.loop-index.invariant.source_counted c.in_ok-log.ensures.source_counted;

@@ -14,6 +14,8 @@ invariant-loop-index g l = record {
   room : HasRoom l.nodes.source.entries l.nodes.target.entries l.rest.items;
   today : list_all is_line_today l.rest.items ≡ true;
   order : are_ordered l.fn.clients (l.index + 1) l.rest.items ≡ true;
+  source_limit : l.nodes.source.limit ≡ l.initial.nodes.source.limit;
+  target_limit : l.nodes.target.limit ≡ l.initial.nodes.target.limit;
   source_tells : is_some (g.B.BlockStore.blocks l.nodes.source.store) ≡ is_some (g.B.BlockStore.blocks l.initial.nodes.source.store);
   target_tells : is_some (g.B.BlockStore.blocks l.nodes.target.store) ≡ is_some (g.B.BlockStore.blocks l.initial.nodes.target.store);
   source_counted : AreCounted g.B.BlockStore.faults l.initial.nodes.source l.nodes.source;

@@ -17,6 +17,8 @@ invariant-loop-next g l =
       today : list_all is_line_today left ≡ true;
       front : IsFront l.fn.section l.next l.rest.items;
       caller : l.client.caller ≡ l.initial.client.caller;
+      source_limit : l.nodes.source.limit ≡ l.initial.nodes.source.limit;
+      target_limit : l.nodes.target.limit ≡ l.initial.nodes.target.limit;
       source_tells : is_some (g.B.BlockStore.blocks l.nodes.source.store) ≡ is_some (g.B.BlockStore.blocks l.initial.nodes.source.store);
       target_tells : is_some (g.B.BlockStore.blocks l.nodes.target.store) ≡ is_some (g.B.BlockStore.blocks l.initial.nodes.target.store);
       source_counted : AreCounted g.B.BlockStore.faults l.initial.nodes.source l.nodes.source;
