@@ -1,11 +1,11 @@
 //! Commands over a store that may fail, and what they print.
 use block_store::{BlockStore, MemBlocks, SteadyBlocks};
-use hs_plain::answer::{is_exclusive, is_served};
+use hs_plain::answer::is_exclusive;
 use hs_types::{
-    Call, CallerId, Chunk, Entry, EntryKind, InodeId, List, Mode, NoMemory, PathText, Place,
-    ReadCursor, ReadLen, Reply,
+    Call, CallerId, Chunk, Entry, EntryKind, InodeId, List, Mode, NameText, NoMemory, PathText,
+    Place, ReadCursor, ReadLen, Reply,
 };
-use namenode_write::Namenode;
+use namenode_write::{JournalLimit, Namenode};
 use std::alloc::Global;
 use std::test::Fail;
 
@@ -33,6 +33,30 @@ fn append(alloc: Global, path: PathText, count: u32) -> Result<Call, NoMemory> {
     Ok(Call::Append {
         path,
         bytes: letters(alloc, count)?,
+    })
+}
+
+fn name_text(alloc: Global, text: &str) -> Result<NameText, NoMemory> {
+    Ok(NameText::new(String::from_str(alloc, text)?))
+}
+
+/// A call on the snapshots of a directory. A new name stands behind the old one.
+fn snapshot_call(
+    alloc: Global,
+    command: &str,
+    path: PathText,
+    words: &str,
+) -> Result<Call, NoMemory> {
+    let (word, new) = words.split_once(' ').unwrap_or((words, ""));
+    let name = name_text(alloc, word)?;
+    Ok(match command {
+        "snap" => Call::Snap { path, name },
+        "snapdel" => Call::SnapDel { path, name },
+        _ => Call::SnapRen {
+            path,
+            old: name,
+            new: name_text(alloc, new)?,
+        },
     })
 }
 
@@ -68,6 +92,8 @@ fn path_call(command: &str, path: PathText, number: u32) -> Call {
             len: read_len(),
         },
         "next" => read_next(u64::from(number)),
+        "allow" => Call::Allow { path },
+        "disallow" => Call::Disallow { path },
         "rm" => Call::Delete {
             path,
             recursive: false,
@@ -84,11 +110,12 @@ fn call_of(alloc: Global, command: &str, path: &str, word: &str) -> Result<Call,
     match command {
         "mv" => rename(alloc, path, word),
         "append" => append(alloc, path, word.parse::<u32>().unwrap_or(0)),
+        "snap" | "snapdel" | "snapren" => snapshot_call(alloc, command, path, word),
         _ => Ok(path_call(command, path, word.parse::<u32>().unwrap_or(0))),
     }
 }
 
-/// The call of a command's words: its name, a path, and one more or none.
+/// The call of a command's words: its name, a path, and what stands behind it.
 fn read_command(alloc: Global, text: &str) -> Result<Call, NoMemory> {
     let (command, words) = text.split_once(' ').unwrap_or((text, ""));
     let (path, word) = words.split_once(' ').unwrap_or((words, ""));
@@ -96,7 +123,7 @@ fn read_command(alloc: Global, text: &str) -> Result<Call, NoMemory> {
 }
 
 fn reply_to<B: BlockStore>(namenode: &mut Namenode<B>, call: Call) -> Reply {
-    if is_exclusive(&call) && is_served(&call) {
+    if is_exclusive(&call) {
         namenode.do_call(CallerId(7), 1, call).reply
     } else {
         Reply::NoMemory
@@ -114,6 +141,7 @@ fn write_reply(out: &mut String, reply: &Reply) -> Result<(), NoMemory> {
     match reply {
         Reply::Made { id } => write!(out, "made {}", id.0)?,
         Reply::Done => out.push_str("done")?,
+        Reply::SnapMade { id } => write!(out, "snap {}", id.0)?,
         Reply::Bytes { bytes, .. } => write_bytes(out, bytes.bytes())?,
         Reply::Refused(why) => out.push_str(why.name())?,
         _ => out.push_str("?")?,
@@ -160,7 +188,17 @@ fn write_tree<B: BlockStore>(out: &mut String, namenode: &Namenode<B>) -> Result
     Ok(())
 }
 
-/// Runs a command: `tree` and `kinds` show the namenode, and each other one is a call.
+/// Rows, records, entries of lists and snapshots.
+fn write_counts<B: BlockStore>(out: &mut String, namenode: &Namenode<B>) -> Result<(), NoMemory> {
+    let counts = namenode.counts();
+    write!(out, "{} ", counts.rows)?;
+    write!(out, "{} ", counts.records)?;
+    write!(out, "{} ", counts.list_entries)?;
+    write!(out, "{}; ", counts.snapshots)?;
+    Ok(())
+}
+
+/// Runs a command: `tree`, `kinds` and `counts` show the namenode, and each other one is a call.
 fn run<B: BlockStore>(
     alloc: Global,
     namenode: &mut Namenode<B>,
@@ -170,6 +208,7 @@ fn run<B: BlockStore>(
     match command {
         "tree" => write_tree(out, namenode),
         "kinds" => write_kinds(out, namenode.journal().items()),
+        "counts" => write_counts(out, namenode),
         _ => make(alloc, namenode, command, out),
     }
 }
@@ -188,14 +227,23 @@ fn run_all<B: BlockStore>(
 
 /// Runs commands over a store that never fails.
 fn run_steady(alloc: Global, commands: &str, out: &mut String) -> Result<(), NoMemory> {
-    let mut namenode = Namenode::new(alloc, SteadyBlocks::new(alloc))?;
+    run_limited(alloc, JournalLimit::usual(), commands, out)
+}
+
+fn run_limited(
+    alloc: Global,
+    limit: JournalLimit,
+    commands: &str,
+    out: &mut String,
+) -> Result<(), NoMemory> {
+    let mut namenode = Namenode::new(alloc, SteadyBlocks::new(alloc), limit)?;
     run_all(alloc, &mut namenode, commands, out)
 }
 
 /// A namenode over a store of which the call with this number fails.
 fn over_failing(alloc: Global, number: u64) -> Result<Namenode<MemBlocks>, NoMemory> {
     let fails = List::of(Vec::from_slice(alloc, &[number])?);
-    Namenode::new(alloc, MemBlocks::new(alloc, fails))
+    Namenode::new(alloc, MemBlocks::new(alloc, fails), JournalLimit::usual())
 }
 
 fn run_failing(
@@ -210,7 +258,7 @@ fn run_failing(
 
 /// Each kind of call where memory is there. The first row goes over the end of a block; a file that makes way gives up
 /// its blocks, and so do all files below a directory that goes.
-const CALLS: [(&str, &str); 3] = [
+const CALLS: [(&str, &str); 5] = [
     (
         "create /f; append /f 65536; append /f 2; read /f 65535; next /f 65536; createover /f; read /f",
         "made 2 0; done 1; done 2; pab 2; ab 2; made 3 0;  0; ",
@@ -222,6 +270,14 @@ const CALLS: [(&str, &str); 3] = [
     (
         "mkdir /a; create /a/f; append /a/f 2; create /a/g; append /a/g 2; chmod /a/g; mv /a/f /a/h; rmr /a; kinds; tree",
         "made 2 0; made 3 0; done 1; made 4 1; done 2; done 2; done 2; done 0; AAAAAAAA; 1 0; ",
+    ),
+    (
+        "mkdir /r; create /r/x; append /r/x 2; allow /r; snap /r s; append /r/x 1; read /r/.snapshot/s/x; read /r/x; rm /r/x; counts; snapren /r s t; disallow /r; snapdel /r t; disallow /r; counts",
+        "made 2 0; made 3 0; done 1; done 1; snap 1 1; done 1; ab 1; aba 1; done 1; 3 2 2 1; done 1; HasSnapshots 1; done 0; done 0; 2 0 1 0; ",
+    ),
+    (
+        "mkdir /r; mkdir /out; allow /r; create /r/x; append /r/x 1; snap /r s; mv /r/x /out/x; append /out/x 2; read /r/.snapshot/s/x; read /out/x; snapdel /r s; counts; tree",
+        "made 2 0; made 3 0; done 0; made 4 0; done 1; snap 1 1; done 1; done 1; a 1; aab 1; done 1; 4 0 3 0; 4 1; ",
     ),
 ];
 
@@ -235,6 +291,21 @@ fn calls_are_done_where_memory_is_there(rt: HostRuntime) -> Result<(), Fail> {
     Ok(())
 }
 
+#[test]
+fn a_full_journal_takes_no_entry(rt: HostRuntime) -> Result<(), Fail> {
+    let Some(limit) = JournalLimit::of(2) else {
+        unreachable!()
+    };
+    let mut out = String::new(rt.alloc());
+    let commands = "mkdir /a; mkdir /b; mkdir /c; mkdir /a; kinds";
+    run_limited(rt.alloc(), limit, commands, &mut out)?;
+    assert_eq!(rt;
+        out.as_str(),
+        "made 2 0; made 3 0; JournalFull 0; Exists 0; AA; "
+    );
+    Ok(())
+}
+
 /// A file is made, gets bytes twice, is read and is deleted, and another file is made. The store makes a block and
 /// writes it, writes it again, reads it and frees it.
 const SIX: &str = "create /f; append /f 2; append /f 3; read /f; rm /f; create /g; kinds";
@@ -243,8 +314,13 @@ const SIX: &str = "create /f; append /f 2; append /f 3; read /f; rm /f; create /
 /// The store makes a block and writes it, writes it again, makes another and writes that, and reads both.
 const OVER: &str = "create /f; append /f 65535; append /f 2; read /f 65534; kinds";
 
+/// A snapshot keeps a file that is deleted; the snapshot is deleted, and then another file is made and deleted. The store makes
+/// a block and writes it, and frees it once the snapshot goes, or else when the next file comes.
+const KEPT: &str =
+    "mkdir /r; create /r/x; append /r/x 2; allow /r; snap /r s; rm /r/x; snapdel /r s; create /y; kinds";
+
 /// What they print where the call of the store with this number fails.
-const FAILING: [(u64, &str, &str); 12] = [
+const FAILING: [(u64, &str, &str); 16] = [
     (
         1,
         SIX,
@@ -281,6 +357,26 @@ const FAILING: [(u64, &str, &str); 12] = [
     (6, OVER, "made 2 0; done 1; done 2; StoreFault 2; AAAF; "),
     (7, OVER, "made 2 0; done 1; done 2; StoreFault 2; AAAF; "),
     (8, OVER, "made 2 0; done 1; done 2; oab 2; AAA; "),
+    (
+        1,
+        KEPT,
+        "made 2 0; made 3 0; StoreFault 0; done 0; snap 1 0; done 0; done 0; made 4 0; AAFAAAAA; ",
+    ),
+    (
+        2,
+        KEPT,
+        "made 2 0; made 3 0; StoreFault 1; done 1; snap 1 1; done 0; done 0; made 4 0; AAFAAAAA; ",
+    ),
+    (
+        3,
+        KEPT,
+        "made 2 0; made 3 0; done 1; done 1; snap 1 1; done 1; done 1; made 4 0; AAAAAAAA; ",
+    ),
+    (
+        4,
+        KEPT,
+        "made 2 0; made 3 0; done 1; done 1; snap 1 1; done 1; done 0; made 4 0; AAAAAAAA; ",
+    ),
 ];
 
 #[test]

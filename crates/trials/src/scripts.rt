@@ -19,6 +19,31 @@ fn print_paths(name: &str, paths: [&PathText; 2], out: &mut String) -> Result<()
     Ok(write!(out, "{name} {:?} {:?}", first.text(), second.text())?)
 }
 
+/// A call on the snapshots of a directory.
+fn print_snapshot_call(call: &Call, out: &mut String) -> Result<(), Fail> {
+    match call {
+        Call::Allow { path } => Ok(write!(out, "allow {:?}", path.text())?),
+        Call::Disallow { path } => Ok(write!(out, "disallow {:?}", path.text())?),
+        Call::Snap { path, name } => Ok(write!(out, "snap {:?} {:?}", path.text(), name.text())?),
+        Call::SnapDel { path, name } => Ok(write!(
+            out,
+            "snapdel {:?} {:?}",
+            path.text(),
+            name.text()
+        )?),
+        Call::SnapRen { path, old, new } => Ok(write!(
+            out,
+            "snapren {:?} {:?} {:?}",
+            path.text(),
+            old.text(),
+            new.text()
+        )?),
+        Call::Snaps { path } => Ok(write!(out, "snaps {:?}", path.text())?),
+        Call::Dirs => Ok(out.push_str("dirs")?),
+        _ => Ok(out.push_str("another call")?),
+    }
+}
+
 fn print_call(call: &Call, out: &mut String) -> Result<(), Fail> {
     match call {
         Call::Mkdir { path } => Ok(write!(out, "mkdir {:?}", path.text())?),
@@ -41,7 +66,7 @@ fn print_call(call: &Call, out: &mut String) -> Result<(), Fail> {
             mode.bits()
         )?),
         Call::Stat { path } => Ok(write!(out, "stat {:?}", path.text())?),
-        _ => Ok(out.push_str("another call")?),
+        _ => print_snapshot_call(call, out),
     }
 }
 
@@ -154,6 +179,23 @@ fn reads_commands(rt: HostRuntime) -> Result<(), Fail> {
         ("t ls /é", "1- t listing \"/é\"; clients 0"),
         ("s ls /a\rb\r\r", "1- s listing \"/a\\rb\\r\"; clients 0"),
         (
+            "s allow /a\nt disallow /a%20b",
+            "1- s allow \"/a\"; 2- t disallow \"/a b\"; clients 0",
+        ),
+        ("s snap /a s%30", "1- s snap \"/a\" \"s0\"; clients 0"),
+        (
+            "t snapdel /a .\ns snapren /a s%2f /b",
+            "1- t snapdel \"/a\" \".\"; 2- s snapren \"/a\" \"s/\" \"/b\"; clients 0",
+        ),
+        (
+            "s snaps /a/.snapshot\nt dirs",
+            "1- s snaps \"/a/.snapshot\"; 2- t dirs; clients 0",
+        ),
+        (
+            "s ls /a/.snapshot\ns cat /a/.snapshot/s/x",
+            "1- s listing \"/a/.snapshot\"; 2- s file \"/a/.snapshot/s/x\"; clients 0",
+        ),
+        (
             "setup\ns ls /\nclient 1\nclient 02\nt ls /\nfinish\ns ls /a",
             "2- s listing \"/\"; 52 t listing \"/\"; 7. s listing \"/a\"; clients 2",
         ),
@@ -175,11 +217,10 @@ fn names_the_first_bad_line(rt: HostRuntime) -> Result<(), Fail> {
         ("s ls /\n\n#\nx\ns", "script line 4: Command"),
         ("u ls /", "script line 1: Command"),
         ("S ls /", "script line 1: Command"),
+        ("s Snap /a b", "script line 1: Command"),
         ("s s ls /", "script line 1: Command"),
         ("s sync /a /b c d", "script line 1: Command"),
         ("sync /a /b c d", "script line 1: Command"),
-        ("s snap /a b c d", "script line 1: Command"),
-        ("s dirs", "script line 1: Command"),
         ("s more", "script line 1: Command"),
         ("s diff /a b c", "script line 1: Command"),
         ("s first /a", "script line 1: Command"),
@@ -197,6 +238,14 @@ fn names_the_first_bad_line(rt: HostRuntime) -> Result<(), Fail> {
         ("client +1", "script line 1: Section"),
         ("client 00000000001", "script line 1: Section"),
         ("client 0000000001\nclient 1", "script line 2: Section"),
+        ("s snap /a b c d", "script line 1: Words"),
+        ("s snap /a", "script line 1: Words"),
+        ("s snapdel /a", "script line 1: Words"),
+        ("s snapren /a b", "script line 1: Words"),
+        ("s allow", "script line 1: Words"),
+        ("s disallow /a b", "script line 1: Words"),
+        ("s snaps", "script line 1: Words"),
+        ("s dirs /a", "script line 1: Words"),
         ("s ls / /", "script line 1: Words"),
         ("s mv /%ff", "script line 1: Words"),
         ("s chmod /a", "script line 1: Words"),
@@ -213,6 +262,9 @@ fn names_the_first_bad_line(rt: HostRuntime) -> Result<(), Fail> {
         ("s fill /%ff 1 00", "script line 1: Utf8"),
         ("s mv /a /%c3", "script line 1: Utf8"),
         ("s append /%c3 x", "script line 1: Utf8"),
+        ("s allow /%c3", "script line 1: Utf8"),
+        ("s snap /a %ff", "script line 1: Utf8"),
+        ("s snapren /a %ff b", "script line 1: Utf8"),
     ];
     for (text, want) in cases {
         assert!(rt; is_read_as(rt.alloc(), text.as_bytes(), want)?, "at {text}");
