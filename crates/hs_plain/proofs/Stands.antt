@@ -32,11 +32,10 @@ use Rattle.hs_plain.specs.Snapshotting.{allow_at, disallow_at, snap_at, snap_del
 use Rattle.hs_plain.specs.Reading.{is_deleted, is_gone, node_stat, list_stat, stat_at, page_at, snapshottable_at, snap_item, point_id, began_at, report_page, report_reply, is_foreign, has_moved, report_next_reply}
 use Rattle.hs_plain.specs.Answer.{made_reply, snap_made_reply, replied, asked, reply_to, answer_by, answer, is_modifying, uses_store, is_ok_reply, blank, blanked}
 use Rattle.hs_plain.specs.Change.{with_file, change}
-use Rattle.hs_plain.specs.Served.{is_served}
 use Rattle.hs_plain.specs.Viewed.{viewed, StandsFor, bytes_in, HasBytes}
 use Rattle.hs_plain.proofs.Viewed.{mapped, read-viewed}
-use Rattle.hs_plain.proofs.ViewedAsked.{any_asked-viewed}
-use Rattle.hs_plain.proofs.ViewedChange.{appended-viewed, any_storeless-viewed, any_change-viewed}
+use Rattle.hs_plain.proofs.ViewedAsked.{asked-viewed}
+use Rattle.hs_plain.proofs.ViewedChange.{appended-viewed, storeless-viewed, change-viewed}
 
 -- ---- blanked replies
 
@@ -173,29 +172,29 @@ is_read (calls.ReportNext cursor size) so = absurd (cc)
 sized_plain : (plain : State (List ℕ)) (call : Call) → asked sized_files (viewed length plain) call ≡ mapped blanked (asked plain_files plain call)
 sized_plain plain call = by_test (uses_store call && not (is_modifying call))
     (λ so. read-viewed length plain_files sized_files blanked sized-page plain call (is_read call so).0 (is_read call so).1)
-    (λ no. any_asked-viewed length plain_files sized_files (λ file. refl) plain call no ∙ sym (asked-blanked plain_files plain call no))
+    (λ no. asked-viewed length plain_files sized_files (λ file. refl) plain call no ∙ sym (asked-blanked plain_files plain call no))
 
 sized_whole : (whole : State FileBlocks) (call : Call) → asked sized_files (viewed (λ file. file.size) whole) call ≡ asked block_files whole call
 sized_whole whole call = by_test (uses_store call && not (is_modifying call))
     (λ so. read-viewed (λ file. file.size) block_files sized_files (λ r. r) (λ offset len place file. refl) whole call (is_read call so).0 (is_read call so).1 ∙ same-reply (asked block_files whole call))
-    (λ no. any_asked-viewed (λ file. file.size) block_files sized_files (λ file. refl) whole call no)
+    (λ no. asked-viewed (λ file. file.size) block_files sized_files (λ file. refl) whole call no)
 
 -- ---- answers
 
 -- the same answer, but for the bytes of a file
-pub any_answer_sized : (whole : State FileBlocks) (plain : State (List ℕ)) → StandsFor whole plain → (call : Call) → blanked (answer plain call) ≡ answer_by block_files whole call
-any_answer_sized whole plain stands call =
+pub answer_sized : (whole : State FileBlocks) (plain : State (List ℕ)) → StandsFor whole plain → (call : Call) → blanked (answer plain call) ≡ answer_by block_files whole call
+answer_sized whole plain stands call =
     sym (told-blanked (asked plain_files plain call))
     ∙ ap reply_to (sym (sized_plain plain call) ∙ ap (λ (state : State ℕ). asked sized_files state call) (sym stands) ∙ sized_whole whole call)
 
 -- where no file is read, the same answer
-pub any_answer_stands : (whole : State FileBlocks) (plain : State (List ℕ)) → StandsFor whole plain → (call : Call) → (uses_store call && not (is_modifying call)) ≡ false → answer plain call ≡ answer_by block_files whole call
-any_answer_stands whole plain stands call no_read =
-    ap reply_to (sym (any_asked-viewed length plain_files sized_files (λ file. refl) plain call no_read) ∙ ap (λ (state : State ℕ). asked sized_files state call) (sym stands) ∙ sized_whole whole call)
+pub answer_stands : (whole : State FileBlocks) (plain : State (List ℕ)) → StandsFor whole plain → (call : Call) → (uses_store call && not (is_modifying call)) ≡ false → answer plain call ≡ answer_by block_files whole call
+answer_stands whole plain stands call no_read =
+    ap reply_to (sym (asked-viewed length plain_files sized_files (λ file. refl) plain call no_read) ∙ ap (λ (state : State ℕ). asked sized_files state call) (sym stands) ∙ sized_whole whole call)
 
 -- both refuse, or none
-pub any_ok_stands : (whole : State FileBlocks) (plain : State (List ℕ)) → StandsFor whole plain → (call : Call) → is_ok_reply (answer plain call) ≡ is_ok_reply (answer_by block_files whole call)
-any_ok_stands whole plain stands call = sym (ok-blanked (answer plain call)) ∙ ap is_ok_reply (any_answer_sized whole plain stands call)
+pub ok_stands : (whole : State FileBlocks) (plain : State (List ℕ)) → StandsFor whole plain → (call : Call) → is_ok_reply (answer plain call) ≡ is_ok_reply (answer_by block_files whole call)
+ok_stands whole plain stands call = sym (ok-blanked (answer plain call)) ∙ ap is_ok_reply (answer_sized whole plain stands call)
 
 -- a read of a store that tells its blocks
 pub read_told : (map : BlockMap) (whole : State FileBlocks) (plain : State (List ℕ)) → HasBytes (Some map) whole plain → (call : Call) → is_modifying call ≡ false → uses_store call ≡ true →
@@ -206,16 +205,16 @@ read_told map whole plain has call reads uses =
 
 -- ---- changes
 
-pub any_change_stands : (whole : State FileBlocks) (plain : State (List ℕ)) → StandsFor whole plain → (call : Call) → StandsFor (change block_files whole call) (change plain_files plain call)
-any_change_stands whole plain stands call =
-    sym (any_change-viewed (λ file. file.size) block_files sized_files refl (λ file bytes. refl) whole call)
+pub change_stands : (whole : State FileBlocks) (plain : State (List ℕ)) → StandsFor whole plain → (call : Call) → StandsFor (change block_files whole call) (change plain_files plain call)
+change_stands whole plain stands call =
+    sym (change-viewed (λ file. file.size) block_files sized_files refl (λ file bytes. refl) whole call)
     ∙ ap (λ (state : State ℕ). change sized_files state call) stands
-    ∙ any_change-viewed length plain_files sized_files refl length-append plain call
+    ∙ change-viewed length plain_files sized_files refl length-append plain call
 
 -- what asks for no store leaves its bytes as they are
-pub any_change_told : (told : Option BlockMap) (whole : State FileBlocks) (plain : State (List ℕ)) → HasBytes told whole plain → (call : Call) → uses_store call ≡ false → HasBytes told (change block_files whole call) (change plain_files plain call)
-any_change_told None whole plain has call no_store = tt
-any_change_told (Some map) whole plain has call no_store = sym (any_storeless-viewed (bytes_in map) block_files plain_files (take-nil 0) whole call no_store) ∙ ap (λ (state : State (List ℕ)). change plain_files state call) has
+pub change_told : (told : Option BlockMap) (whole : State FileBlocks) (plain : State (List ℕ)) → HasBytes told whole plain → (call : Call) → uses_store call ≡ false → HasBytes told (change block_files whole call) (change plain_files plain call)
+change_told None whole plain has call no_store = tt
+change_told (Some map) whole plain has call no_store = sym (storeless-viewed (bytes_in map) block_files plain_files (take-nil 0) whole call no_store) ∙ ap (λ (state : State (List ℕ)). change plain_files state call) has
 
 -- a file with blocks in the place of another, as many bytes longer as an append says
 pub appended_stands : (whole : State FileBlocks) (plain : State (List ℕ)) → StandsFor whole plain → (text bytes : List ℕ) (path : Names) (node : Node FileBlocks) (file new : FileBlocks) →
@@ -223,27 +222,10 @@ pub appended_stands : (whole : State FileBlocks) (plain : State (List ℕ)) → 
 appended_stands whole plain stands text bytes path node file new asked longer =
     sym (appended-viewed (λ file. file.size) sized_files whole text bytes path node file new asked longer)
     ∙ ap (λ (state : State ℕ). change sized_files state (calls.Append text bytes)) stands
-    ∙ any_change-viewed length plain_files sized_files refl length-append plain (calls.Append text bytes)
+    ∙ change-viewed length plain_files sized_files refl length-append plain (calls.Append text bytes)
 
 -- and with these bytes behind the ones that it had
 pub appended_told : (map : BlockMap) (whole : State FileBlocks) (plain : State (List ℕ)) → HasBytes (Some map) whole plain → (text bytes : List ℕ) (path : Names) (node : Node FileBlocks) (file new : FileBlocks) →
     append_at whole text ≡ Ok (path, node, file) → bytes_in map new ≡ bytes_in map file ++ bytes → HasBytes (Some map) (with_file whole path node new) (change plain_files plain (calls.Append text bytes))
 appended_told map whole plain has text bytes path node file new asked longer =
     sym (appended-viewed (bytes_in map) plain_files whole text bytes path node file new asked longer) ∙ ap (λ (state : State (List ℕ)). change plain_files state (calls.Append text bytes)) has
-
--- ---- the calls that are served today
-
-pub answer_sized : (whole : State FileBlocks) (plain : State (List ℕ)) → StandsFor whole plain → (call : Call) → is_served call ≡ true → blanked (answer plain call) ≡ answer_by block_files whole call
-answer_sized whole plain stands call served = any_answer_sized whole plain stands call
-
-pub answer_stands : (whole : State FileBlocks) (plain : State (List ℕ)) → StandsFor whole plain → (call : Call) → is_served call ≡ true → (uses_store call && not (is_modifying call)) ≡ false → answer plain call ≡ answer_by block_files whole call
-answer_stands whole plain stands call served no_read = any_answer_stands whole plain stands call no_read
-
-pub ok_stands : (whole : State FileBlocks) (plain : State (List ℕ)) → StandsFor whole plain → (call : Call) → is_served call ≡ true → is_ok_reply (answer plain call) ≡ is_ok_reply (answer_by block_files whole call)
-ok_stands whole plain stands call served = any_ok_stands whole plain stands call
-
-pub change_stands : (whole : State FileBlocks) (plain : State (List ℕ)) → StandsFor whole plain → (call : Call) → is_served call ≡ true → StandsFor (change block_files whole call) (change plain_files plain call)
-change_stands whole plain stands call served = any_change_stands whole plain stands call
-
-pub change_told : (told : Option BlockMap) (whole : State FileBlocks) (plain : State (List ℕ)) → HasBytes told whole plain → (call : Call) → is_served call ≡ true → uses_store call ≡ false → HasBytes told (change block_files whole call) (change plain_files plain call)
-change_told told whole plain has call served no_store = any_change_told told whole plain has call no_store

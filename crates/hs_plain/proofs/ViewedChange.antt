@@ -23,7 +23,6 @@ use Rattle.hs_plain.specs.Modifying.{mkdir_at, create_at, delete_at, rename_at, 
 use Rattle.hs_plain.specs.Snapshotting.{allow_at, disallow_at, snap_at, snap_del_at, snap_ren_at}
 use Rattle.hs_plain.specs.Answer.{uses_store}
 use Rattle.hs_plain.specs.Change.{restamp, stamped, remode, moded, without, new_path, at_new, repath, put_all, moved, new_file, with_node, made_dir, made_file, still_in, removed, renamed, with_mode, refilled, with_file, appended, allowed, disallowed, new_member, snapped, is_snapshot, unsnapped, rename_member, resnapped, if_asked, change}
-use Rattle.hs_plain.specs.Served.{is_served}
 use Rattle.hs_plain.specs.Viewed.{viewed_node, viewed_place, viewed_tree, viewed_member, viewed}
 use Rattle.hs_plain.proofs.Viewed.{place_of-viewed, mkdir_at-viewed, create_at-viewed, delete_at-viewed, rename_at-viewed, set_mode_at-viewed, mapped, viewed_file, append_at-viewed}
 use Rattle.hs_plain.proofs.ViewedReports.{subtree-viewed}
@@ -204,46 +203,43 @@ module _ {A B : Type 0} (read : A → B) (fa : Files A) (fb : Files B) (empty : 
       ∙ with_node-viewed read state path (new_file fa state.next_inode (state.tick + 1))
 
   -- what uses no store
-  pub any_storeless-viewed : (state : State A) (call : Call) → uses_store call ≡ false → change fb (viewed read state) call ≡ viewed read (change fa state call)
-  any_storeless-viewed state (calls.Mkdir path) no_store =
+  pub storeless-viewed : (state : State A) (call : Call) → uses_store call ≡ false → change fb (viewed read state) call ≡ viewed read (change fa state call)
+  storeless-viewed state (calls.Mkdir path) no_store =
       ap (if_asked (made_dir (viewed read state)) (viewed read state)) (mkdir_at-viewed read state path) ∙ if_asked-viewed read (made_dir state) (made_dir (viewed read state)) state (made_dir-viewed read state) (mkdir_at state path)
-  any_storeless-viewed state (calls.Create path over) no_store =
+  storeless-viewed state (calls.Create path over) no_store =
       ap (if_asked (made_file fb (viewed read state)) (viewed read state)) (create_at-viewed read state path over)
       ∙ if_asked-viewed read (made_file fa state) (made_file fb (viewed read state)) state (made_file-viewed state) (create_at state path over)
-  any_storeless-viewed state (calls.Append path bytes) no_store = absurd (cc)
-  any_storeless-viewed state (calls.Delete path recursive) no_store =
+  storeless-viewed state (calls.Append path bytes) no_store = absurd (cc)
+  storeless-viewed state (calls.Delete path recursive) no_store =
       ap (if_asked (removed (viewed read state)) (viewed read state)) (delete_at-viewed read state path recursive) ∙ if_asked-viewed read (removed state) (removed (viewed read state)) state (removed-viewed read state) (delete_at state path recursive)
-  any_storeless-viewed state (calls.Rename old new) no_store =
+  storeless-viewed state (calls.Rename old new) no_store =
       ap (if_asked (renamed (viewed read state)) (viewed read state)) (rename_at-viewed read state old new) ∙ if_asked-viewed read (renamed state) (renamed (viewed read state)) state (renamed-viewed read state) (rename_at state old new)
-  any_storeless-viewed state (calls.SetMode path mode) no_store =
+  storeless-viewed state (calls.SetMode path mode) no_store =
       ap (if_asked (with_mode (viewed read state) mode) (viewed read state)) (set_mode_at-viewed read state path)
       ∙ if_asked-viewed read (with_mode state mode) (with_mode (viewed read state) mode) state (with_mode-viewed read state mode) (set_mode_at state path)
-  any_storeless-viewed state (calls.Allow path) no_store =
+  storeless-viewed state (calls.Allow path) no_store =
       ap (if_asked (allowed (viewed read state)) (viewed read state)) (allow_at-viewed read state path) ∙ if_asked-viewed read (allowed state) (allowed (viewed read state)) state (allowed-viewed read state) (allow_at state path)
-  any_storeless-viewed state (calls.Disallow path) no_store =
+  storeless-viewed state (calls.Disallow path) no_store =
       ap (if_asked (disallowed (viewed read state)) (viewed read state)) (disallow_at-viewed read state path)
       ∙ if_asked-viewed read (disallowed state) (disallowed (viewed read state)) state (λ id. refl) (disallow_at state path)
-  any_storeless-viewed state (calls.Snap path name) no_store =
+  storeless-viewed state (calls.Snap path name) no_store =
       ap (if_asked (snapped (viewed read state) name) (viewed read state)) (snap_at-viewed read state path name)
       ∙ if_mapped-viewed read (viewed_place read) (snapped state name) (snapped (viewed read state) name) state (snapped-viewed read state name) (snap_at state path name)
-  any_storeless-viewed state (calls.SnapDel path name) no_store =
+  storeless-viewed state (calls.SnapDel path name) no_store =
       ap (if_asked (unsnapped (viewed read state)) (viewed read state)) (snap_del_at-viewed read state path name)
       ∙ if_asked-viewed read (unsnapped state) (unsnapped (viewed read state)) state (unsnapped-viewed read state) (snap_del_at state path name)
-  any_storeless-viewed state (calls.SnapRen path old new) no_store =
+  storeless-viewed state (calls.SnapRen path old new) no_store =
       ap (if_asked (resnapped (viewed read state) new) (viewed read state)) (snap_ren_at-viewed read state path old new)
       ∙ if_asked-viewed read (resnapped state new) (resnapped (viewed read state) new) state (resnapped-viewed read state new) (snap_ren_at state path old new)
-  any_storeless-viewed state (calls.Read path offset len) no_store = refl
-  any_storeless-viewed state (calls.ReadNext cursor len) no_store = refl
-  any_storeless-viewed state (calls.Stat path) no_store = refl
-  any_storeless-viewed state (calls.List path size) no_store = refl
-  any_storeless-viewed state (calls.ListNext cursor size) no_store = refl
-  any_storeless-viewed state (calls.Snaps path) no_store = refl
-  any_storeless-viewed state calls.Dirs no_store = refl
-  any_storeless-viewed state (calls.Report path from to size) no_store = refl
-  any_storeless-viewed state (calls.ReportNext cursor size) no_store = refl
-
-  pub change-viewed : (state : State A) (call : Call) → is_served call ≡ true → uses_store call ≡ false → change fb (viewed read state) call ≡ viewed read (change fa state call)
-  change-viewed state call served no_store = any_storeless-viewed state call no_store
+  storeless-viewed state (calls.Read path offset len) no_store = refl
+  storeless-viewed state (calls.ReadNext cursor len) no_store = refl
+  storeless-viewed state (calls.Stat path) no_store = refl
+  storeless-viewed state (calls.List path size) no_store = refl
+  storeless-viewed state (calls.ListNext cursor size) no_store = refl
+  storeless-viewed state (calls.Snaps path) no_store = refl
+  storeless-viewed state calls.Dirs no_store = refl
+  storeless-viewed state (calls.Report path from to size) no_store = refl
+  storeless-viewed state (calls.ReportNext cursor size) no_store = refl
 
   -- every call, where an append reads as one
   module _ (longer : (file : A) (bytes : List ℕ) → read (fa.append file bytes) ≡ fb.append (read file) bytes) where
@@ -253,27 +249,24 @@ module _ {A B : Type 0} (read : A → B) (fa : Files A) (fb : Files B) (empty : 
         ap (with_file (viewed read state) at.0 (viewed_node read at.1)) (sym (longer at.2 bytes)) ∙ with_file-viewed read state at.0 at.1 (fa.append at.2 bytes)
     if_appended-viewed state bytes (Err why) = refl
 
-    pub any_change-viewed : (state : State A) (call : Call) → change fb (viewed read state) call ≡ viewed read (change fa state call)
-    any_change-viewed state (calls.Mkdir path) = any_storeless-viewed state (calls.Mkdir path) refl
-    any_change-viewed state (calls.Create path over) = any_storeless-viewed state (calls.Create path over) refl
-    any_change-viewed state (calls.Append path bytes) = ap (if_asked (appended fb (viewed read state) bytes) (viewed read state)) (append_at-viewed read state path) ∙ if_appended-viewed state bytes (append_at state path)
-    any_change-viewed state (calls.Delete path recursive) = any_storeless-viewed state (calls.Delete path recursive) refl
-    any_change-viewed state (calls.Rename old new) = any_storeless-viewed state (calls.Rename old new) refl
-    any_change-viewed state (calls.SetMode path mode) = any_storeless-viewed state (calls.SetMode path mode) refl
-    any_change-viewed state (calls.Allow path) = any_storeless-viewed state (calls.Allow path) refl
-    any_change-viewed state (calls.Disallow path) = any_storeless-viewed state (calls.Disallow path) refl
-    any_change-viewed state (calls.Snap path name) = any_storeless-viewed state (calls.Snap path name) refl
-    any_change-viewed state (calls.SnapDel path name) = any_storeless-viewed state (calls.SnapDel path name) refl
-    any_change-viewed state (calls.SnapRen path old new) = any_storeless-viewed state (calls.SnapRen path old new) refl
-    any_change-viewed state (calls.Read path offset len) = refl
-    any_change-viewed state (calls.ReadNext cursor len) = refl
-    any_change-viewed state (calls.Stat path) = refl
-    any_change-viewed state (calls.List path size) = refl
-    any_change-viewed state (calls.ListNext cursor size) = refl
-    any_change-viewed state (calls.Snaps path) = refl
-    any_change-viewed state calls.Dirs = refl
-    any_change-viewed state (calls.Report path from to size) = refl
-    any_change-viewed state (calls.ReportNext cursor size) = refl
-
-    pub every_change-viewed : (state : State A) (call : Call) → is_served call ≡ true → change fb (viewed read state) call ≡ viewed read (change fa state call)
-    every_change-viewed state call served = any_change-viewed state call
+    pub change-viewed : (state : State A) (call : Call) → change fb (viewed read state) call ≡ viewed read (change fa state call)
+    change-viewed state (calls.Mkdir path) = storeless-viewed state (calls.Mkdir path) refl
+    change-viewed state (calls.Create path over) = storeless-viewed state (calls.Create path over) refl
+    change-viewed state (calls.Append path bytes) = ap (if_asked (appended fb (viewed read state) bytes) (viewed read state)) (append_at-viewed read state path) ∙ if_appended-viewed state bytes (append_at state path)
+    change-viewed state (calls.Delete path recursive) = storeless-viewed state (calls.Delete path recursive) refl
+    change-viewed state (calls.Rename old new) = storeless-viewed state (calls.Rename old new) refl
+    change-viewed state (calls.SetMode path mode) = storeless-viewed state (calls.SetMode path mode) refl
+    change-viewed state (calls.Allow path) = storeless-viewed state (calls.Allow path) refl
+    change-viewed state (calls.Disallow path) = storeless-viewed state (calls.Disallow path) refl
+    change-viewed state (calls.Snap path name) = storeless-viewed state (calls.Snap path name) refl
+    change-viewed state (calls.SnapDel path name) = storeless-viewed state (calls.SnapDel path name) refl
+    change-viewed state (calls.SnapRen path old new) = storeless-viewed state (calls.SnapRen path old new) refl
+    change-viewed state (calls.Read path offset len) = refl
+    change-viewed state (calls.ReadNext cursor len) = refl
+    change-viewed state (calls.Stat path) = refl
+    change-viewed state (calls.List path size) = refl
+    change-viewed state (calls.ListNext cursor size) = refl
+    change-viewed state (calls.Snaps path) = refl
+    change-viewed state calls.Dirs = refl
+    change-viewed state (calls.Report path from to size) = refl
+    change-viewed state (calls.ReportNext cursor size) = refl

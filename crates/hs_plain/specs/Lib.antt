@@ -16,7 +16,6 @@ pub mod Span
 pub mod Plan
 pub mod Premises
 pub mod Lines
-pub mod Served
 pub mod Frozen
 pub mod Answers
 pub mod Ticks

@@ -1,7 +1,6 @@
 //! The answers of the plain machine.
 ghost use Rattle.std.specs.Prelude.{◌≡◌, ◌≢◌, Ok, Err, MatchResult};
 ghost use Rattle.hs_plain.specs.Answer;
-ghost use Rattle.hs_plain.specs.Served;
 ghost use Rattle.hs_plain.specs.Files.{plain_files};
 ghost use Rattle.hs_plain.specs.inside.Faults.{IsFaultOf, told_reply};
 
@@ -90,41 +89,6 @@ pub fn is_exclusive(call: &Call) -> bool
     ensures { result ≡ Answer.is_exclusive call.now }
 {
     is_modifying(call) || matches!(call, Call::Read { .. } | Call::ReadNext { .. })
-}
-
-/// Whether a namenode serves a call today.
-pub fn is_served(call: &Call) -> bool
-    ensures { result ≡ Served.is_served call.now }
-{
-    match call {
-        Call::Mkdir { .. }
-        | Call::Create { .. }
-        | Call::Append { .. }
-        | Call::Delete { .. }
-        | Call::Rename { .. }
-        | Call::SetMode { .. }
-        | Call::Read { .. }
-        | Call::ReadNext { .. }
-        | Call::Stat { .. }
-        | Call::List { .. } => true,
-        Call::Allow { .. }
-        | Call::Disallow { .. }
-        | Call::Snap { .. }
-        | Call::SnapDel { .. }
-        | Call::SnapRen { .. }
-        | Call::ListNext { .. }
-        | Call::Snaps { .. }
-        | Call::Dirs
-        | Call::Report { .. }
-        | Call::ReportNext { .. } => false,
-    }
-}
-
-/// Whether a call asks for a page of a report.
-pub fn is_report(call: &Call) -> bool
-    ensures { result ≡ Served.is_report call.now }
-{
-    matches!(call, Call::Report { .. } | Call::ReportNext { .. })
 }
 
 fn asked(alloc: Global, state: &PlainState, call: &Call) -> Result<Reply, AskFault>

@@ -121,14 +121,14 @@ pub fn delete_at<B>(
 }
 
 /// Of two refusals the one with the lesser number, and of one number the first.
-fn first_of(a: Refusal, b: Refusal) -> Refusal
+pub fn first_of(a: Refusal, b: Refusal) -> Refusal
     ensures { result ≡ Asked.first_of a b }
 {
     if b.number() < a.number() { b } else { a }
 }
 
 /// The live paths that two texts of a modifying call name.
-fn live_paths(
+pub fn live_paths(
     alloc: Global,
     old: &PathText,
     new: &PathText,
