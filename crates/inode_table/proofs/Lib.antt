@@ -13,6 +13,7 @@ pub mod Ending
 pub mod Giving
 pub mod Going
 pub mod Kept
+pub mod Lent
 pub mod Lessening
 pub mod Listing
 pub mod Marked

@@ -151,21 +151,31 @@ above_key k id (e ∷ es) old below h = elim (id_order id e.0) as (λ o. id_orde
     is_less Equal t = cc
     is_less Greater t = cc
 
+both_less : (k id : InodeId) → id_order k id ≡ Less → id_order id k ≡ Less → ⊥
+both_less k id a b = less_not (sym (nat_total.antisymm id.0 k.0 ∙ ap ordering_reverse a) ∙ b)
+  where
+    less_not : Greater ≡ Less → ⊥
+    less_not q = cc
+
+-- the row that is there, written again
+pub put-same : (table : Table) (id : InodeId) (row : RowState) → is_sorted id_order table ≡ true → row_at table id ≡ Some row → put id_order id row table ≡ table
+put-same [] id row sorted h = absurd (none_some h)
+put-same (e ∷ es) id row sorted h = elim (id_order id e.0) as (λ o. id_order id e.0 ≡ o → cond (is_eq o) (Some e.1) (row_at es id) ≡ Some row
+    → by_order o ((id, row) ∷ e ∷ es) ((e.0, row) ∷ es) (e ∷ put id_order id row es) ≡ e ∷ es) [
+      | Less ↦ λ t g. let above = above_key e.0 id es row (first (below_all id_order e.0 es) _ sorted) g in absurd (both_less e.0 id above t)
+      | Equal ↦ λ t g. ap (λ (r : RowState). (e.0, r) ∷ es) (sym (same_some g))
+      | Greater ↦ λ t g. ap (λ (rest : Table). e ∷ rest) (put-same es id row (second (below_all id_order e.0 es) _ sorted) g)
+    ] refl h
+
 -- another row in the place of one
 pub put-total : (weight : RowState → ℕ) (table : Table) (id : InodeId) (old new : RowState) → is_sorted id_order table ≡ true → row_at table id ≡ Some old → total weight (put id_order id new table) + weight old ≡ total weight table + weight new
 put-total weight [] id old new sorted h = absurd (none_some h)
 put-total weight (e ∷ es) id old new sorted h = elim (id_order id e.0) as (λ o. id_order id e.0 ≡ o → cond (is_eq o) (Some e.1) (row_at es id) ≡ Some old
     → total weight (by_order o ((id, new) ∷ e ∷ es) ((e.0, new) ∷ es) (e ∷ put id_order id new es)) + weight old ≡ total weight (e ∷ es) + weight new) [
-      | Less ↦ λ t g. let above = above_key e.0 id es old (first (below_all id_order e.0 es) _ sorted) g in absurd (both_less above t)
+      | Less ↦ λ t g. let above = above_key e.0 id es old (first (below_all id_order e.0 es) _ sorted) g in absurd (both_less e.0 id above t)
       | Equal ↦ λ t g. let same = ap weight (same_some g) in omega (arith, same)
       | Greater ↦ λ t g. let rest = put-total weight es id old new (second (below_all id_order e.0 es) _ sorted) g in omega (arith, rest)
     ] refl h
-  where
-    both_less : id_order e.0 id ≡ Less → id_order id e.0 ≡ Less → ⊥
-    both_less a b = less_not (sym (nat_total.antisymm id.0 e.0.0 ∙ ap ordering_reverse a) ∙ b)
-      where
-        less_not : Greater ≡ Less → ⊥
-        less_not q = cc
 
 pub put-named : (table : Table) (id x : InodeId) (old new : RowState) → is_sorted id_order table ≡ true → row_at table id ≡ Some old → times_named x (put id_order id new table) + times x (named_in old.rows) ≡ times_named x table + times x (named_in new.rows)
 put-named table id x old new sorted h = put-total (λ row. times x (named_in row.rows)) table id old new sorted h

@@ -96,12 +96,16 @@ named-few [] = omega arith
 named-few (None ∷ rows) = let rest = named-few rows in omega (arith, rest)
 named-few (Some row ∷ rows) = let rest = named-few rows in elim (nat_lt 0 row.names) as (λ b. one_where b + named_rows rows ≤ length (Some row ∷ rows)) [ true ↦ omega (arith, rest) | false ↦ omega (arith, rest) ]
 
-marked_from : (rows : Slots) (i : ℕ) (since carry : SnapId) → named_rows (set rows i (option_map (with_marks since carry) (flat (slice_get rows i)))) ≡ named_rows rows
-marked_from [] i since carry = refl
-marked_from (None ∷ rows) zero since carry = refl
-marked_from (Some row ∷ rows) zero since carry = refl
-marked_from (slot ∷ rows) (suc i) since carry = ap (λ n. is_named slot + n) (marked_from rows i since carry)
+-- a slot named alike is written
+pub named-set : (rows : Slots) (i : ℕ) (new : Option Row) → is_named new ≡ is_named (flat (slice_get rows i)) → named_rows (set rows i new) ≡ named_rows rows
+named-set [] i new same = refl
+named-set (slot ∷ rows) zero new same = omega (arith, same)
+named-set (slot ∷ rows) (suc i) new same = ap (λ n. is_named slot + n) (named-set rows i new same)
 
 -- marks name nothing
 pub named-marked : (rows : Slots) (id : InodeId) (since carry : SnapId) → named_rows (set rows id.0 (option_map (with_marks since carry) (at_place rows id))) ≡ named_rows rows
-named-marked rows id since carry = marked_from rows id.0 since carry
+named-marked rows id since carry = named-set rows id.0 (option_map (with_marks since carry) (at_place rows id)) (by (at_place rows id))
+  where
+    by : (o : Option Row) → is_named (option_map (with_marks since carry) o) ≡ is_named o
+    by None = refl
+    by (Some row) = refl

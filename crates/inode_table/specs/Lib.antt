@@ -12,6 +12,7 @@ pub mod Indexed
 pub mod Inside
 pub mod Joined
 pub mod Kept
+pub mod Lent
 pub mod Lessened
 pub mod Listed
 pub mod Marks

@@ -56,8 +56,9 @@ abbrev pub noted_at : ℕ → Index → ℕ
 noted_at tick [] = 0
 noted_at tick (entry ∷ index) = one_where (entry.tick == tick) + noted_at tick index
 
--- no entry's tick is above this one; each tick has at most three entries, and this one at most so many
+-- ticks begin at 1, and none is above this one; each tick has at most three entries, and this one at most so many
 pub record IsFilled (index : Index) (tick used : ℕ) : Type 0 where
+  pub first : (entry : Noted) → Contains index entry → 0 < entry.tick
   pub upto : (entry : Noted) → Contains index entry → entry.tick ≤ tick
   pub few : (other : ℕ) → noted_at other index ≤ 3
   pub now : noted_at tick index ≤ used

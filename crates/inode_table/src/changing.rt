@@ -279,7 +279,7 @@ fn change_at(
 }
 
 /// Whether a change with that cover starts a record.
-fn starts_at(rows: &Vec<Option<Row>>, id: InodeId, cover: SnapId) -> bool
+pub fn starts_at(rows: &Vec<Option<Row>>, id: InodeId, cover: SnapId) -> bool
     ensures { result ≡ starts_in cover.0 (option_map state_of (at_place rows.now.items id)) }
 {
     match row_at(rows, id) {

@@ -45,6 +45,20 @@ impl<'a> Counted<'a> {
         self.table.row(id)
     }
 
+    /// How many rows were asked for.
+    pub fn ticks(&self) -> u64
+        ensures { result ≡ self.now.ticks }
+    {
+        self.ticks
+    }
+
+    /// As that of the table. It doesn't tick.
+    pub fn greatest(&self) -> InodeId
+        ensures { result.0 ≡ self.now.table.greatest }
+    {
+        self.table.greatest()
+    }
+
     /// As that of the table.
     pub fn made_between(&self, low: u64, high: u64) -> Result<List<InodeId>, NoMemory>
         ensures { IfOk result (λ ids. ids ≡ made_between low high (told self.now.table).rows self.now.table.index) }

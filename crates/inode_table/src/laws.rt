@@ -16,6 +16,7 @@ ghost use Rattle.inode_table.specs.Recounts.{ChangedNamedLaw, ChangedWeightLaw};
 ghost use Rattle.inode_table.specs.Start.{StartStandsLaw};
 ghost use Rattle.inode_table.specs.Records.{LoseLaw, StartLaw, MergeLaw};
 ghost use Rattle.inode_table.specs.Ahead.{PreparedLaw, InsertFitsLaw, InsertLeavesLaw, ChangeFitsLaw, ChangeLeavesLaw, MarksLeaveLaw, ReleaseFitsLaw};
+ghost use Rattle.inode_table.specs.Lent.{LentBackLaw, LentChangedLaw, LentCanLaw, LentWeightLaw, LentFitsLaw};
 ghost use Rattle.inode_table.specs.Edited.{RemoveRowLaw};
 ghost use Rattle.inode_table.specs.Once.{OnceRemoveLaw, OnceAddLaw};
 ghost use Rattle.inode_table.specs.Acyclic.{FewerEndLaw, AddEndLaw};
@@ -316,4 +317,29 @@ pub fn marks_leave()
 /// And the next release is answered Ok.
 pub fn release_fits()
     ensures { ReleaseFitsLaw }
+{}
+
+/// A list of blocks that was taken out and is put back leaves the table as it was.
+pub fn lent_back()
+    ensures { LentBackLaw }
+{}
+
+/// A new body of a file whose blocks are lent makes what it would have made before, where it starts no record.
+pub fn lent_changed()
+    ensures { LentChangedLaw }
+{}
+
+/// It can be made where it could before.
+pub fn lent_can()
+    ensures { LentCanLaw }
+{}
+
+/// Blocks weigh nothing.
+pub fn lent_weight()
+    ensures { LentWeightLaw }
+{}
+
+/// And there is room for that body.
+pub fn lent_fits()
+    ensures { LentFitsLaw }
 {}

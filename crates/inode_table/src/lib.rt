@@ -9,6 +9,7 @@ mod counting;
 mod freed;
 mod inserting;
 pub mod laws;
+mod lending;
 mod merging;
 mod noted;
 mod preparing;

@@ -1,5 +1,5 @@
 -- Live rows changed at their needs.
-use Rattle.std.proofs.Common.{◌≡◌, ℕ, ◌+◌, ◌≤◌, List, [], ◌∷◌, map, Option, Some, length, refl, sym, ap, subst, ◌∙◌}
+use Rattle.std.proofs.Common.{◌≡◌, ℕ, ◌+◌, ◌≤◌, List, [], ◌∷◌, map, Option, Some, length, refl, sym, ap, subst, ◌∙◌, arith}
 use Rattle.std.specs.List.{Contains}
 use Rattle.hs_types.specs.Names.{Names}
 use Rattle.hs_types.specs.declared.ids.InodeId.{InodeId}
@@ -80,4 +80,4 @@ module _ (state : State FileBlocks) (issued : ℕ) (before : Table) (cs : List L
       → IsFilled t.index (state.tick + 1) used → IsFilled (live_changed state before cs t).index (state.tick + 1) (used + length ids)
   call-filled used ids named le filled = turns-filled t (state.tick + 1) used (map (at_need state before) cs) ids may.can one_number
       (λ c k. let a = from_map (at_need state before) cs c k in subst (λ (x : RowChange). Contains ids x.id) a.2 (named a.0 a.1))
-      le filled
+      (omega arith) le filled

@@ -87,8 +87,9 @@ one_most false = omega arith
 other_tick : (tick other : ℕ) → (tick == other) ≡ true → tick ≡ other
 other_tick tick other t = grind (arith, nat_tests, t)
 
-pub filled-noted : (index : Index) (tick used : ℕ) (id : InodeId) → used < 3 → IsFilled index tick used → IsFilled (noted tick id index) tick (used + 1)
-filled-noted index tick used id lt f = record {
+pub filled-noted : (index : Index) (tick used : ℕ) (id : InodeId) → 0 < tick → used < 3 → IsFilled index tick used → IsFilled (noted tick id index) tick (used + 1)
+filled-noted index tick used id some lt f = record {
+  first = λ e c. by_noted tick id index e c (λ k. f.first e k) (λ same. omega (arith, same, some));
   upto = λ e c. by_noted tick id index e c (λ k. f.upto e k) (λ same. omega (arith, same));
   few = λ other. let sum = noted_at-noted other tick id index in elim (tick == other) as (λ b. (tick == other) ≡ b → noted_at other (noted tick id index) ≡ one_where b + noted_at other index → noted_at other (noted tick id index) ≤ 3) [
     | true ↦ λ t all. let now = f.now in let same = ap (λ n. noted_at n index) (other_tick tick other t) in omega (arith, all, now, same, lt)
@@ -107,13 +108,14 @@ none_above tick (x ∷ xs) upto =
 
 pub filled-next : (index : Index) (tick used : ℕ) → IsFilled index tick used → IsFilled index (tick + 1) 0
 filled-next index tick used f = record {
+  first = f.first;
   upto = λ e c. let le = f.upto e c in omega (arith, le);
   few = f.few;
   now = let none = none_above tick index f.upto in omega (arith, none);
 }
 
 pub filled-more : (index : Index) (tick used most : ℕ) → used ≤ most → IsFilled index tick used → IsFilled index tick most
-filled-more index tick used most le f = record { upto = f.upto; few = f.few; now = let now = f.now in omega (arith, now, le) }
+filled-more index tick used most le f = record { first = f.first; upto = f.upto; few = f.few; now = let now = f.now in omega (arith, now, le) }
 
 -- ---- what is found
 

@@ -1,5 +1,5 @@
 -- Rows changed in turn.
-use Rattle.std.proofs.Common.{◌≡◌, ℕ, ◌+◌, ◌≤◌, List, [], ◌∷◌, Some, length, sym, ap, subst, ◌∙◌, inl, inr, ⊎_elim, arith}
+use Rattle.std.proofs.Common.{◌≡◌, ℕ, ◌+◌, ◌<◌, ◌≤◌, List, [], ◌∷◌, Some, length, sym, ap, subst, ◌∙◌, inl, inr, ⊎_elim, arith}
 use Rattle.std.specs.Prelude.{◌≢◌, ◌⊎◌}
 use Rattle.std.specs.List.{Contains}
 use Rattle.std.specs.Option.{option_map}
@@ -77,9 +77,9 @@ module _ (t : Tabled) (tick : ℕ) (c d : RowChange) (can : CanChange t.rows c.i
       (λ _ k. s rows k)
 
 filled_turns : (t : Tabled) (tick used : ℕ) (cs : List RowChange) (ids : List InodeId) → CanAll tick cs t → OneNumber cs → ((c : RowChange) → Contains cs c → Contains ids c.id ⊎ Settled t c)
-    → used + length ids ≤ 3 → IsFilled t.index tick used → IsFilled (all_changed tick cs t).index tick (used + length ids)
-filled_turns t tick used [] ids can one known le filled = filled-more t.index tick used (used + length ids) (omega arith) filled
-filled_turns t tick used (c ∷ cs) ids can one known le filled = ⊎_elim
+    → 0 < tick → used + length ids ≤ 3 → IsFilled t.index tick used → IsFilled (all_changed tick cs t).index tick (used + length ids)
+filled_turns t tick used [] ids can one known some le filled = filled-more t.index tick used (used + length ids) (omega arith) filled
+filled_turns t tick used (c ∷ cs) ids can one known some le filled = ⊎_elim
     (λ h. let r = others ids c.id h in
     let len = r.1 in
     subst (λ (n : ℕ). IsFilled (all_changed tick (c ∷ cs) t).index tick n) {x = used + 1 + length r.0} {y = used + length ids} (omega (arith, len))
@@ -88,11 +88,11 @@ filled_turns t tick used (c ∷ cs) ids can one known le filled = ⊎_elim
     (λ l. by_id d.id c.id (λ e. inr (settled_same t tick c d can.0 e (one c d (at_head c cs) (at_later c cs d k) (sym e)))) (λ apart. inl (r.2 d.id apart l)))
     (λ s. inr (settled_later t tick c d can.0 s))
     (known d (at_later c cs d k)))
-    (omega (arith, len, le))
-    (filled-changed t c.number tick used c.id c.what (omega (arith, len, le)) filled)))
+    some (omega (arith, len, le))
+    (filled-changed t c.number tick used c.id c.what some (omega (arith, len, le)) filled)))
     (λ s. filled_turns (after t tick c can.0) tick used cs ids can.1 rest
     (λ d k. ⊎_elim (λ l. inl l) (λ s. inr (settled_later t tick c d can.0 s)) (known d (at_later c cs d k)))
-    le
+    some le
     (subst (λ (index : Index). IsFilled index tick used) (sym (no-record t c.number tick c.id c.what can.0 (s can.0.row.rows (was t tick c can.0)))) filled))
     (known c (at_head c cs))
   where
@@ -100,5 +100,5 @@ filled_turns t tick used (c ∷ cs) ids can one known le filled = ⊎_elim
     rest d e k l = one d e (at_later c cs d k) (at_later c cs e l)
 
 pub turns-filled : (t : Tabled) (tick used : ℕ) (cs : List RowChange) (ids : List InodeId) → CanAll tick cs t → OneNumber cs → ((c : RowChange) → Contains cs c → Contains ids c.id)
-    → used + length ids ≤ 3 → IsFilled t.index tick used → IsFilled (all_changed tick cs t).index tick (used + length ids)
-turns-filled t tick used cs ids can one named le filled = filled_turns t tick used cs ids can one (λ c k. inl (named c k)) le filled
+    → 0 < tick → used + length ids ≤ 3 → IsFilled t.index tick used → IsFilled (all_changed tick cs t).index tick (used + length ids)
+turns-filled t tick used cs ids can one named some le filled = filled_turns t tick used cs ids can one (λ c k. inl (named c k)) some le filled

@@ -138,12 +138,12 @@ module _ (t : Tabled) (members : List (Member FileBlocks)) (issued number tick :
         (λ k. indexed-if (nat_lt (last_in old) number) tick id x t.index members n (are.indexed x rows n k has)));
   }
 
-filled-if : (b : Bool) (index : Index) (tick used : ℕ) (id : InodeId) → used < 3 → IsFilled index tick used → IsFilled (cond b (noted tick id index) index) tick (used + 1)
-filled-if true index tick used id lt f = filled-noted index tick used id lt f
-filled-if false index tick used id lt f = filled-more index tick used (used + 1) (omega arith) f
+filled-if : (b : Bool) (index : Index) (tick used : ℕ) (id : InodeId) → 0 < tick → used < 3 → IsFilled index tick used → IsFilled (cond b (noted tick id index) index) tick (used + 1)
+filled-if true index tick used id some lt f = filled-noted index tick used id some lt f
+filled-if false index tick used id some lt f = filled-more index tick used (used + 1) (omega arith) f
 
-pub filled-changed : (t : Tabled) (number tick used : ℕ) (id : InodeId) (what : Change) → used < 3 → IsFilled t.index tick used → IsFilled (changed id number tick what t).index tick (used + 1)
-filled-changed t number tick used id what lt f = filled-if (starts_in number (row_at t.rows id)) t.index tick used id lt f
+pub filled-changed : (t : Tabled) (number tick used : ℕ) (id : InodeId) (what : Change) → 0 < tick → used < 3 → IsFilled t.index tick used → IsFilled (changed id number tick what t).index tick (used + 1)
+filled-changed t number tick used id what some lt f = filled-if (starts_in number (row_at t.rows id)) t.index tick used id some lt f
 
 -- ---- the need
 
@@ -232,8 +232,8 @@ records-inserted t members issued since id rows bare are = record {
     none : (r : RowHistory) → rows ≡ r → numbers_in r ≡ []
     none r same = bare-numbers r (subst IsBare same bare)
 
-pub filled-inserted : (t : Tabled) (since tick used : ℕ) (id : InodeId) (rows : RowHistory) → stamp_of rows ≡ tick → used < 3 → IsFilled t.index tick used → IsFilled (inserted id rows since t).index tick (used + 1)
-filled-inserted t since tick used id rows now lt f = subst (λ (n : ℕ). IsFilled (noted n id t.index) tick (used + 1)) (sym now) (filled-noted t.index tick used id lt f)
+pub filled-inserted : (t : Tabled) (since tick used : ℕ) (id : InodeId) (rows : RowHistory) → stamp_of rows ≡ tick → 0 < tick → used < 3 → IsFilled t.index tick used → IsFilled (inserted id rows since t).index tick (used + 1)
+filled-inserted t since tick used id rows now some lt f = subst (λ (n : ℕ). IsFilled (noted n id t.index) tick (used + 1)) (sym now) (filled-noted t.index tick used id some lt f)
 
 -- ---- rows stay, or go
 
@@ -367,7 +367,7 @@ records-first spot = (
     rising = λ i j d le lt. absurd (omega (arith, lt));
     indexed = λ id rows n h c. not_empty n (subst (λ (r : RowHistory). Contains (numbers_in r) n) (sym (first id rows h)) c);
   },
-  record { upto = λ e c. not_empty e c; few = λ n. omega arith; now = omega arith },
+  record { first = λ e c. not_empty e c; upto = λ e c. not_empty e c; few = λ n. omega arith; now = omega arith },
 )
   where
     first : (id : InodeId) (rows : RowHistory) → rows_at (first_table spot).rows id ≡ Some rows → (first_row spot).rows ≡ rows

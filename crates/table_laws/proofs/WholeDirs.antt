@@ -82,6 +82,7 @@ module _ (t : Tabled) (snaps : Snapshots) (state : State FileBlocks) (path : Nam
   midway : Midway next.members (snaps.issued.0 + 1) (state.tick + 1) 0 [] t
   midway = record {
     records = records-plain t state snaps.issued.0 3 name (path, node) (sym before.next_snapshot) before.filled before.records;
+    some = (begun t snaps state before).some;
     filled = (begun t snaps state before).filled;
     named = before.naming;
     but = (begun t snaps state before).but;

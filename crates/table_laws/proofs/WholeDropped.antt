@@ -139,6 +139,7 @@ whole-snap_del files t middle after freed snaps state text name path node gone b
     midway : Midway (unsnapped state gone.snapshot).members snaps.issued.0 (state.tick + 1) 0 [] after
     midway = record {
       records = released.0;
+      some = omega arith;
       filled = subst (λ index. IsFilled index (state.tick + 1) 0) (sym (released.1 ∙ left.1)) (filled-next t.index state.tick 3 before.filled);
       named = names.named;
       but = (all-names after.rows).1 names.all;

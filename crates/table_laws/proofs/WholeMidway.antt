@@ -39,6 +39,7 @@ use Rattle.table_laws.proofs.WholeParts.{Within, within-of, marks-within, ids-wi
 
 pub record Midway (members : List (Member FileBlocks)) (issued tick used : ℕ) (unnamed : List InodeId) (t : Tabled) : Type 0 where
   pub records : AreRecords t.rows t.index members issued
+  pub some : 0 < tick
   pub filled : IsFilled t.index tick used
   pub named : AreNamed t.rows
   pub but : NamedBut unnamed t.rows
@@ -48,6 +49,7 @@ pub record Midway (members : List (Member FileBlocks)) (issued tick used : ℕ) 
 pub begun : (t : Tabled) (snaps : Snapshots) (state : State FileBlocks) → StandsFor t snaps state → Midway state.members snaps.issued.0 (state.tick + 1) 0 [] t
 begun t snaps state stands = record {
   records = stands.records;
+  some = omega arith;
   filled = filled-next t.index state.tick 3 stands.filled;
   named = stands.naming;
   but = (all-names t.rows).1 stands.named;
@@ -72,7 +74,8 @@ module _ (members : List (Member FileBlocks)) (issued tick used : ℕ) (unnamed 
       → Midway members issued tick (used + 1) unnamed (changed id number tick what t)
   mid-quiet id number what calm can may few = let names = quiet-names t id number tick what calm can are.records.undoable are.named in record {
     records = records-changed t members issued number tick id what can may are.records;
-    filled = filled-changed t number tick used id what few are.filled;
+    some = are.some;
+    filled = filled-changed t number tick used id what are.some few are.filled;
     named = names.named;
     but = names.but unnamed are.but;
     within = within-changed t id number tick what issued t.greatest are.within;
@@ -85,7 +88,8 @@ module _ (members : List (Member FileBlocks)) (issued tick used : ℕ) (unnamed 
   mid-out id x number name can there may few = let names = remove-names t id x number tick name there are.records.undoable are.named in (
     record {
       records = records-changed t members issued number tick id (changes.Remove name) can may are.records;
-      filled = filled-changed t number tick used id (changes.Remove name) few are.filled;
+      some = are.some;
+      filled = filled-changed t number tick used id (changes.Remove name) are.some few are.filled;
       named = names.named;
       but = names.but unnamed are.but;
       within = within-changed t id number tick (changes.Remove name) issued t.greatest are.within;
@@ -99,7 +103,8 @@ module _ (members : List (Member FileBlocks)) (issued tick used : ℕ) (unnamed 
   mid-insert id rows new bare stamp above other few = let names = insert-names t id rows issued new bare are.named in (
     record {
       records = records-inserted t members issued issued id rows bare are.records;
-      filled = filled-inserted t issued tick used id rows stamp few are.filled;
+      some = are.some;
+      filled = filled-inserted t issued tick used id rows stamp are.some few are.filled;
       named = names.named;
       but = names.but unnamed are.but;
       within = within-inserted t id rows issued t.greatest above other are.within;
@@ -111,6 +116,7 @@ module _ (members : List (Member FileBlocks)) (issued tick used : ℕ) (unnamed 
   pub mid-mark : (id : InodeId) (carry : ℕ) → carry ≤ issued → root_id ≢ id → Midway members issued tick used unnamed (marked_row id issued carry t)
   mid-mark id carry upto other = let names = mark-names t id issued carry are.named in record {
     records = records-marked t members issued issued carry id are.records;
+    some = are.some;
     filled = are.filled;
     named = names.named;
     but = names.but unnamed are.but;
@@ -121,6 +127,7 @@ module _ (members : List (Member FileBlocks)) (issued tick used : ℕ) (unnamed 
   pub mid-release : (after : Tabled) (freed : Freed) → Releasing t freed after → Midway members issued tick used [] after
   mid-release after freed gone = let names = release-names t after freed gone are.named in let left = records-released t after freed members issued gone are.records in record {
     records = left.0;
+    some = are.some;
     filled = subst (λ index. IsFilled index tick used) (sym left.1) are.filled;
     named = names.named;
     but = (all-names after.rows).1 names.all;
@@ -134,7 +141,8 @@ pub mid-in : (members : List (Member FileBlocks)) (issued tick used : ℕ) (unna
     → Midway members issued tick (used + 1) unnamed (changed id number tick (changes.Add name x) t)
 mid-in members issued tick used unnamed t id x number name are can other live may few = let names = add-names t id x number tick name can other live are.records.undoable are.named in record {
   records = records-changed t members issued number tick id (changes.Add name x) can may are.records;
-  filled = filled-changed t number tick used id (changes.Add name x) few are.filled;
+  some = are.some;
+  filled = filled-changed t number tick used id (changes.Add name x) are.some few are.filled;
   named = names.named;
   but = names.but unnamed are.but;
   within = within-changed t id number tick (changes.Add name x) issued t.greatest are.within;
@@ -149,7 +157,7 @@ ended after snaps next used valid stands are few told snapshottable next_inode n
   stands = stands-ticked after.rows next snaps.issued.0 stands;
   marks = marks-within after.rows snaps.issued.0 after.greatest are.within;
   records = are.records;
-  filled = record { upto = are.filled.upto; few = are.filled.few; now = let now = are.filled.now in omega (arith, now, few) };
+  filled = record { first = are.filled.first; upto = are.filled.upto; few = are.filled.few; now = let now = are.filled.now in omega (arith, now, few) };
   naming = are.named;
   named = (all-names after.rows).0 are.but;
   told = told;

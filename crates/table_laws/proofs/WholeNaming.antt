@@ -155,6 +155,7 @@ whole-snap_ren files t snaps state text old new path node id before at asked = s
     midway : Midway (resnapped state new id).members snaps.issued.0 (state.tick + 1) 0 [] t
     midway = let among = resnapped-among state new id in record {
       records = records-renamed t state.members (resnapped state new id).members snaps.issued.0 among.0 among.1 before.records;
+      some = start.some;
       filled = start.filled;
       named = start.named;
       but = start.but;

@@ -35,7 +35,7 @@ whole-ticked t snaps state stands = record {
   stands = stands-ticked t.rows state snaps.issued.0 stands.stands;
   marks = stands.marks;
   records = stands.records;
-  filled = let next = filled-next t.index state.tick 3 stands.filled in record { upto = next.upto; few = next.few; now = next.few (state.tick + 1) };
+  filled = let next = filled-next t.index state.tick 3 stands.filled in record { first = next.first; upto = next.upto; few = next.few; now = next.few (state.tick + 1) };
   naming = stands.naming;
   named = stands.named;
   told = stands.told;

@@ -18,7 +18,7 @@ use Rattle.hs_plain.specs.Answer.{uses_store}
 use Rattle.hs_plain.specs.Change.{change, with_file, ticked}
 use Rattle.hs_plain.specs.Viewed as viewed
 use Rattle.hs_plain.specs.Viewed.{HasBytes}
-use Rattle.hs_plain.proofs.Stands.{any_change_stands, any_change_told, appended_stands, appended_told}
+use Rattle.hs_plain.proofs.Stands.{change_stands, change_told, appended_stands, appended_told}
 use Rattle.hs_plain.proofs.Validity.{valid-start}
 use Rattle.hs_plain.proofs.ValidShapes.{none_some, same_some}
 use Rattle.snapshot_manager.specs.Snapshots as snapshots
@@ -62,7 +62,7 @@ whole-start spot = record {
     root = refl;
   };
   records = (records-first spot).0;
-  filled = record { upto = (records-first spot).1.upto; few = (records-first spot).1.few; now = omega arith };
+  filled = record { first = (records-first spot).1.first; upto = (records-first spot).1.upto; few = (records-first spot).1.few; now = omega arith };
   naming = (start-names spot).0;
   named = (start-names spot).1;
   told = at_start;
@@ -105,8 +105,8 @@ pub plain-call : (t after : Tabled) (snaps next : Snapshots) (store : Option Blo
 plain-call t after snaps next store made waiting left plain call was storeless stands blocks = record {
   state = ticked (change block_files was.state call);
   stands = stands;
-  sized = ap ticked (any_change_stands was.state plain was.sized call);
-  bytes = bytes_ticked store (change block_files was.state call) (change plain_files plain call) (any_change_told store was.state plain was.bytes call storeless);
+  sized = ap ticked (change_stands was.state plain was.sized call);
+  bytes = bytes_ticked store (change block_files was.state call) (change plain_files plain call) (change_told store was.state plain was.bytes call storeless);
   blocks = blocks;
 }
 

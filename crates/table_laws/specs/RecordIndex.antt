@@ -10,7 +10,7 @@ use Rattle.inode_table.specs.Whole.{AreRecords, IsFilled, numbers_in}
 
 -- an entry more at this tick
 abbrev pub NotedLaw : Type 0
-NotedLaw = (index : Index) (tick used : ℕ) (id : InodeId) → used < 3 → IsFilled index tick used → IsFilled (noted tick id index) tick (used + 1)
+NotedLaw = (index : Index) (tick used : ℕ) (id : InodeId) → 0 < tick → used < 3 → IsFilled index tick used → IsFilled (noted tick id index) tick (used + 1)
 
 -- the next call begins
 abbrev pub NextTickLaw : Type 0

@@ -1,5 +1,5 @@
 -- Rows changed in turn, as one call does it: at numbers that were found before the first change.
-use Rattle.std.specs.Prelude.{◌≡◌, ℕ, ◌+◌, ◌≤◌, List, [], ◌∷◌, length, Some}
+use Rattle.std.specs.Prelude.{◌≡◌, ℕ, ◌+◌, ◌<◌, ◌≤◌, List, [], ◌∷◌, length, Some}
 use Rattle.std.specs.List.{Contains}
 use Rattle.hs_types.specs.declared.ids.InodeId.{InodeId}
 use Rattle.hs_plain.specs.declared.state.Member.{Member}
@@ -43,4 +43,4 @@ TurnsRecordsLaw = (t : Tabled) (members : List (Member FileBlocks)) (issued tick
 -- the index gets at most one entry for each row
 abbrev pub TurnsFilledLaw : Type 0
 TurnsFilledLaw = (t : Tabled) (tick used : ℕ) (cs : List RowChange) (ids : List InodeId) → CanAll tick cs t → OneNumber cs → ((c : RowChange) → Contains cs c → Contains ids c.id)
-    → used + length ids ≤ 3 → IsFilled t.index tick used → IsFilled (all_changed tick cs t).index tick (used + length ids)
+    → 0 < tick → used + length ids ≤ 3 → IsFilled t.index tick used → IsFilled (all_changed tick cs t).index tick (used + length ids)

@@ -55,7 +55,7 @@ ChangeRecordsLaw = (t : Tabled) (members : List (Member FileBlocks)) (issued num
 
 -- it gives the index one entry at most
 abbrev pub ChangeFilledLaw : Type 0
-ChangeFilledLaw = (t : Tabled) (number tick used : ℕ) (id : InodeId) (what : Change) → used < 3 → IsFilled t.index tick used → IsFilled (changed id number tick what t).index tick (used + 1)
+ChangeFilledLaw = (t : Tabled) (number tick used : ℕ) (id : InodeId) (what : Change) → 0 < tick → used < 3 → IsFilled t.index tick used → IsFilled (changed id number tick what t).index tick (used + 1)
 
 -- and none where no record is started
 abbrev pub NoRecordLaw : Type 0
@@ -92,7 +92,7 @@ InsertRecordsLaw = (t : Tabled) (members : List (Member FileBlocks)) (issued sin
 
 -- and gets one entry in the index, at the tick of its stamp
 abbrev pub InsertFilledLaw : Type 0
-InsertFilledLaw = (t : Tabled) (since tick used : ℕ) (id : InodeId) (rows : RowHistory) → stamp_of rows ≡ tick → used < 3 → IsFilled t.index tick used → IsFilled (inserted id rows since t).index tick (used + 1)
+InsertFilledLaw = (t : Tabled) (since tick used : ℕ) (id : InodeId) (rows : RowHistory) → stamp_of rows ≡ tick → 0 < tick → used < 3 → IsFilled t.index tick used → IsFilled (inserted id rows since t).index tick (used + 1)
 
 -- marks are no part of records
 abbrev pub MarkRecordsLaw : Type 0
