@@ -1,5 +1,5 @@
--- The blocks that are handed out, where the store tells its blocks.
-use Rattle.std.proofs.Common.{ℕ, inl, inr, List, ◌++◌, Some, ⊎_elim, arith}
+-- The blocks that are handed out.
+use Rattle.std.proofs.Common.{ℕ, inl, inr, List, ◌++◌, Option, Some, None, ⊎_elim, arith}
 use Rattle.std.specs.List.{IsDistinct}
 use Rattle.std.proofs.lemmas.List.Elements.{Contains-append_right, Contains-append_cases}
 use Rattle.hs_types.specs.Blocks.{BlockMap, same_block}
@@ -9,6 +9,7 @@ use Rattle.inode_table.specs.Blocked.{AreBlocks}
 use Rattle.inode_table.specs.RowHistory.{Table}
 use Rattle.table_laws.proofs.BlockLists.{times-append, times-distinct, distinct-times, distinct-apart}
 use Rattle.record_merge.specs.Dropping.{FreesExactly}
+use Rattle.record_merge.proofs.Telling.{would-tell}
 
 distinct_right : (xs ys : List BlockId) → IsDistinct same_block (xs ++ ys) → IsDistinct same_block ys
 distinct_right xs ys d = distinct-times ys (λ block. let all = times-append block xs ys in let few = times-distinct block (xs ++ ys) d in omega (arith, all, few))
@@ -27,5 +28,8 @@ frees_exactly store made waiting blocks before after was is = record {
       ((is.stored block).0 ((was.stored block).1 (inr named)));
 }
 
-pub freed-exactly : (store : BlockMap) (made : ℕ) (waiting : List BlockId) (freed : Freed) (before after : Table) → AreBlocks before (Some store) made waiting → AreBlocks after (Some store) made (waiting ++ freed.blocks) → FreesExactly before after freed.blocks
-freed-exactly store made waiting freed before after was is = frees_exactly store made waiting freed.blocks before after was is
+-- whatever the store tells: where it doesn't, one that would serves as well
+pub freed-exactly : (store : Option BlockMap) (made : ℕ) (waiting : List BlockId) (freed : Freed) (before after : Table) → AreBlocks before store made waiting
+    → ((other : Option BlockMap) → AreBlocks before other made waiting → AreBlocks after other made (waiting ++ freed.blocks)) → FreesExactly before after freed.blocks
+freed-exactly None made waiting freed before after was later = let telling = would-tell before made waiting was in frees_exactly telling.0 made waiting freed.blocks before after telling.1 (later (Some telling.0) telling.1)
+freed-exactly (Some store) made waiting freed before after was later = frees_exactly store made waiting freed.blocks before after was (later (Some store) was)

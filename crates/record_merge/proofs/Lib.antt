@@ -5,3 +5,5 @@ pub mod Whole
 pub mod Freeing
 pub mod Answering
 pub mod Weighing
+pub mod Telling
+pub mod Counting

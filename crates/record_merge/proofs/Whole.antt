@@ -43,13 +43,14 @@ use Rattle.table_laws.proofs.WholeDropped.{merged-by, within-merged, greatest-me
 use Rattle.table_laws.proofs.WholeParts.{Within, within-of, within-released, greatest-released, marks-within, ids-within}
 use Rattle.table_laws.proofs.WholeSnaps.{some-changed}
 use Rattle.record_merge.proofs.Members.{found-member, told-without}
+use Rattle.record_merge.proofs.Counting.{drop-rows}
 use Rattle.record_merge.proofs.Weighing.{drop-weight}
 
 -- ---- what is looked at
 
 -- the index is filled up to a later tick too
 filled_upto : (t : Tabled) (tick high : ℕ) → tick ≤ high → IsFilled t.index tick 3 → IsFilled t.index high 3
-filled_upto t tick high le filled = record { upto = λ e c. let upto = filled.upto e c in omega (arith, le, upto); few = filled.few; now = filled.few high }
+filled_upto t tick high le filled = record { first = filled.first; upto = λ e c. let upto = filled.upto e c in omega (arith, le, upto); few = filled.few; now = filled.few high }
 
 -- more rows may be looked at
 left_more : (t : Tabled) (fewer : List (Member FileBlocks)) (issued : ℕ) (found ids : List InodeId) → ((x : InodeId) → Contains found x → Contains ids x) → AreLeft t fewer issued found → AreLeft t fewer issued ids
@@ -157,6 +158,9 @@ module _ (t middle after : Tabled) (freed : Freed) (snaps : Snapshots) (state : 
   pub blocks-without : (store : Option BlockMap) (made : ℕ) (waiting : List BlockId) → AreBlocks t.rows store made waiting → AreBlocks after.rows store made (waiting ++ freed.blocks)
   blocks-without store made waiting are = (drop-blocks store made waiting t middle after merges.0 freed merges.1 is.going (record { handed_out = is.before.handed_out; blocks = are })).blocks
 
+  pub rows-without : length t.rows ≡ length after.rows + freed.rows
+  rows-without = drop-rows t middle after merges.0 freed merges.1 is.going is.before.naming.order
+
   pub weight-without : weight after.rows ≤ weight t.rows
   weight-without = drop-weight t middle after merges.0 freed merges.1 is.going (record { sound = is.before.records.undoable; named = is.before.naming })
 
@@ -204,6 +208,11 @@ pub blocks-then : (t after : Tabled) (snaps : Snapshots) (state : State FileBloc
     → Answered t after snaps id dir item ids high freed → (store : Option BlockMap) (made : ℕ) (waiting : List BlockId) → AreBlocks t.rows store made waiting → AreBlocks after.rows store made (waiting ++ freed.blocks)
 blocks-then t after snaps state id dir item ids high freed before le a =
     let d = deleted t after snaps state id dir item ids high freed before le a in blocks-without t a.middle after freed snaps state d.gone ids d.deletes
+
+pub rows-then : (t after : Tabled) (snaps : Snapshots) (state : State FileBlocks) (id : SnapId) (dir : InodeId) (item : SnapItem) (ids : List InodeId) (high : ℕ) (freed : Freed) → StandsFor t snaps state → state.tick ≤ high
+    → Answered t after snaps id dir item ids high freed → length t.rows ≡ length after.rows + freed.rows
+rows-then t after snaps state id dir item ids high freed before le a =
+    let d = deleted t after snaps state id dir item ids high freed before le a in rows-without t a.middle after freed snaps state d.gone ids d.deletes
 
 pub weight-then : (t after : Tabled) (snaps : Snapshots) (state : State FileBlocks) (id : SnapId) (dir : InodeId) (item : SnapItem) (ids : List InodeId) (high : ℕ) (freed : Freed) → StandsFor t snaps state → state.tick ≤ high
     → Answered t after snaps id dir item ids high freed → weight after.rows ≤ weight t.rows

@@ -1,5 +1,5 @@
 //! The deletion of a snapshot.
-ghost use Rattle.std.specs.Prelude.{◌≡◌, ◌≢◌, ◌⊎◌, ℕ, ◌-◌, ◌^◌, ◌<◌, ◌≤◌, List, ◌∷◌, ◌++◌, Option, Some, IsSome, IsOk, IfOk, OnOk, OnErr};
+ghost use Rattle.std.specs.Prelude.{◌≡◌, ◌≢◌, ◌⊎◌, ℕ, ◌+◌, ◌-◌, ◌^◌, ◌<◌, ◌≤◌, List, ◌∷◌, ◌++◌, length, Option, Some, IsSome, IsOk, IfOk, OnOk, OnErr};
 ghost use Rattle.std.specs.List.{Contains};
 ghost use Rattle.hs_types.specs.Blocks.{BlockMap};
 ghost use Rattle.hs_types.specs.declared.ids.BlockId.{BlockId};
@@ -112,8 +112,9 @@ pub fn drop_snapshot(table: &mut Table, snaps: &mut Snaps, id: SnapId) -> Result
         → IfOk result (λ freed. AreBlocks (told table.new).rows store made (waiting ++ freed.blocks)) }
     ensures plain { (plain : State (List ℕ)) (store : Option BlockMap) (made : ℕ) (waiting : List BlockId) → plain.tick < 2 ^ 64 → StandsForPlain (told table.old) snaps.old store made waiting plain
         → IfOk result (λ freed. StandsForPlain (told table.new) snaps.new store made (waiting ++ freed.blocks) (unsnapped plain id)) }
-    ensures freed { (state : State FileBlocks) (store : BlockMap) (made : ℕ) (waiting : List BlockId) → state.tick < 2 ^ 64 → StandsFor (told table.old) snaps.old state → AreBlocks (told table.old).rows (Some store) made waiting
+    ensures freed { (state : State FileBlocks) (store : Option BlockMap) (made : ℕ) (waiting : List BlockId) → state.tick < 2 ^ 64 → StandsFor (told table.old) snaps.old state → AreBlocks (told table.old).rows store made waiting
         → IfOk result (λ freed. FreesExactly (told table.old).rows (told table.new).rows freed.blocks) }
+    ensures rows { (state : State FileBlocks) → state.tick < 2 ^ 64 → StandsFor (told table.old) snaps.old state → IfOk result (λ freed. length (told table.old).rows ≡ length (told table.new).rows + freed.rows) }
     ensures light { (state : State FileBlocks) → state.tick < 2 ^ 64 → StandsFor (told table.old) snaps.old state → OnOk result (weight (told table.new).rows ≤ weight (told table.old).rows) }
     ensures err_table { OnErr result (told table.new ≡ told table.old) }
     ensures err_snaps { OnErr result (snaps.new ≡ snaps.old) }

@@ -1,11 +1,11 @@
-use Rattle.std.proofs.Common.{◌≤◌, ◌<◌, ℕ, List, ◌++◌, Some, sym, ap, subst, ◌∙◌, arith}
+use Rattle.std.proofs.Common.{◌≤◌, ◌<◌, ℕ, List, ◌++◌, sym, ap, subst, ◌∙◌, arith}
 use Rattle.hs_plain.specs.Change.{unsnapped}
 use Rattle.snapshot_manager.specs.Snapshots.{Snapshots, changed, without}
 use Rattle.inode_table.specs.Kept.{told}
 use Rattle.inode_table.specs.Whole.{StandsFor, StandsForPlain}
 use Rattle.record_merge.proofs.Answering.{if-ok, on-ok, answered}
 use Rattle.record_merge.proofs.Freeing.{freed-exactly}
-use Rattle.record_merge.proofs.Whole.{stands-then, blocks-then, weight-then, plain-then}
+use Rattle.record_merge.proofs.Whole.{stands-then, blocks-then, rows-then, weight-then, plain-then}
 use Rattle.record_merge.proofs.dropping.drop_snapshot.Goals as goal
 
 upto : (n : ℕ) → n < 18446744073709551616 → n ≤ 18446744073709551615
@@ -30,9 +30,16 @@ pub returns-clause-freed : goal.returns-clause-freed
 returns-clause-freed c = λ state store made waiting lt before are. if-ok c.commit.result c.commit.ensures.table (λ freed told_by.
     let item = c.in-Some.item.now in let ids = c.in_ok-ids.ids in
     freed-exactly store made waiting freed (told c.args.table.now).rows (told c.commit.new.table).rows are
-    (blocks-then (told c.args.table.now) (told c.commit.new.table) c.args.snaps.now state c.args.id c.in-Some.dir item ids 18446744073709551615 freed before (upto state.tick lt)
+    (λ other among. blocks-then (told c.args.table.now) (told c.commit.new.table) c.args.snaps.now state c.args.id c.in-Some.dir item ids 18446744073709551615 freed before (upto state.tick lt)
     (answered (told c.prepared_since.new.table) (told c.args.table.now) (told c.commit.new.table) c.args.snaps.now c.commit.new.snaps c.args.id c.in-Some.dir item c.in_ok-name.name c.items.result.now ids 18446744073709551615 freed
-    c.always.ensures.proper c.in-Some.ensures c.in_ok-name.ensures c.in_ok-ids.ensures.same c.items.ensures c.in_ok-ids.ensures.all c.commit.ensures.snaps told_by) (Some store) made waiting are))
+    c.always.ensures.proper c.in-Some.ensures c.in_ok-name.ensures c.in_ok-ids.ensures.same c.items.ensures c.in_ok-ids.ensures.all c.commit.ensures.snaps told_by) other made waiting among))
+
+pub returns-clause-rows : goal.returns-clause-rows
+returns-clause-rows c = λ state lt before. if-ok c.commit.result c.commit.ensures.table (λ freed told_by.
+    let item = c.in-Some.item.now in let ids = c.in_ok-ids.ids in
+    rows-then (told c.args.table.now) (told c.commit.new.table) c.args.snaps.now state c.args.id c.in-Some.dir item ids 18446744073709551615 freed before (upto state.tick lt)
+    (answered (told c.prepared_since.new.table) (told c.args.table.now) (told c.commit.new.table) c.args.snaps.now c.commit.new.snaps c.args.id c.in-Some.dir item c.in_ok-name.name c.items.result.now ids 18446744073709551615 freed
+    c.always.ensures.proper c.in-Some.ensures c.in_ok-name.ensures c.in_ok-ids.ensures.same c.items.ensures c.in_ok-ids.ensures.all c.commit.ensures.snaps told_by))
 
 pub returns-clause-light : goal.returns-clause-light
 returns-clause-light c = λ state lt before. on-ok c.commit.result c.commit.ensures.table (λ freed told_by.
