@@ -1,11 +1,13 @@
 pub mod ByRows
+pub mod Chains
+pub mod Circles
 pub mod Climbs
-pub mod Copies
 pub mod Directories
-pub mod Halves
 pub mod Holds
 pub mod Later
 pub mod Live
+pub mod Looks
+pub mod Named
 pub mod Over
 pub mod Stays
 pub mod Under

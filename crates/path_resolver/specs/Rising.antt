@@ -11,9 +11,11 @@ use Rattle.hs_types.specs.declared.refusal.Refusal.TheVariants.{NotFound, Gone}
 use Rattle.hs_plain.specs.Asked.{Asked, refuse_if}
 use Rattle.dir_changes.specs.Entries.{id_at, is_that}
 use Rattle.snapshot_manager.specs.Snapshots.{Snapshots, snaps_of, live_at}
+use Rattle.inode_table.specs.declared.row.Row.{Row}
 use Rattle.inode_table.specs.Climb.{path_up}
+use Rattle.inode_table.specs.Numbered.{history_of}
 use Rattle.inode_table.specs.Reads.{Shown}
-use Rattle.inode_table.specs.RowHistory.{shown}
+use Rattle.inode_table.specs.RowHistory.{shown, entries_in}
 use Rattle.inode_table.specs.Stands.{root_id}
 use Rattle.inode_table.specs.Tabled.{Tabled}
 use Rattle.inode_table.specs.Walk.{and_then}
@@ -21,6 +23,10 @@ use Rattle.inode_table.specs.Walk.{and_then}
 -- the spot of an inode, where the list that it leads to names the inode
 abbrev pub spot_above : {B : Type 0} → Shown B → InodeId → Option Spot
 spot_above shown id = and_then (shown.spot id) (λ spot. if is_that id (id_at spot.name (shown.entries spot.parent)) then Some spot else None)
+
+-- the row that a spot leads to, where its list names the inode
+abbrev pub row_naming : ℕ → Spot → InodeId → Option Row → Option Row
+row_naming s spot id row = and_then row (λ above. if is_that id (id_at spot.name (entries_in s (history_of above.rows))) then Some above else None)
 
 -- the path from one inode down to another at a snapshot, found by going up
 abbrev pub way_down : Tabled → ℕ → InodeId → InodeId → Option Names

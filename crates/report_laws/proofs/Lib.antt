@@ -1,0 +1,11 @@
+pub mod Arithmetic
+pub mod Climbing
+pub mod Counting
+pub mod Edits
+pub mod EndRows
+pub mod Ends
+pub mod Entries
+pub mod Listing
+pub mod Looking
+pub mod Moments
+pub mod Spans
