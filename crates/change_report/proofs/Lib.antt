@@ -1,0 +1,11 @@
+pub mod AllFound
+pub mod AtEnd
+pub mod Costing
+pub mod EndRows
+pub mod Entries
+pub mod FoundLines
+pub mod OneOrder
+pub mod PlainLines
+pub mod Sorting
+pub mod Told
+pub mod Ticks
