@@ -35,7 +35,8 @@ use Rattle.path_resolver.proofs.Climbs.{way-leads, way-finds}
 use Rattle.path_resolver.proofs.Holds.{entry-some, some-entry}
 use Rattle.namenode_read.specs.Directories.{dirs_from, keyed_one, keyed, DirPlace, as_dir, put_at, with_dir, with_dirs, dirs_found}
 use Rattle.path_resolver.proofs.Later.{later, all_later, first_later, none_later}
-use Rattle.namenode_read.proofs.Stats.{live_is, count_snaps}
+use Rattle.paged_listing.proofs.Trees.{live_is}
+use Rattle.namenode_read.proofs.Stats.{count_snaps}
 
 -- ---- directories by rising ids
 

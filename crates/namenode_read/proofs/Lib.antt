@@ -1,7 +1,6 @@
 pub mod Chains
-pub mod Cursors
 pub mod DirPaths
-pub mod Items
+pub mod FirstReports
 pub mod Places
 pub mod Snapshots
 pub mod Stats

@@ -8,7 +8,6 @@ use Rattle.hs_types.specs.declared.ids.InodeId.{InodeId}
 use Rattle.hs_types.specs.declared.path.Path.{Path}
 use Rattle.hs_types.specs.declared.path.PathTail.{PathTail}
 use Rattle.hs_types.specs.declared.path.PathTail.TheVariants.{Plain, SnapshotList, Frozen}
-use Rattle.hs_types.specs.declared.refusal.Refusal.{Refusal}
 use Rattle.hs_types.specs.declared.refusal.Refusal.TheVariants.{NotFound}
 use Rattle.hs_types.specs.declared.call.Place.{Place}
 use Rattle.hs_types.specs.declared.call.Place.TheVariants as places
@@ -23,18 +22,9 @@ use Rattle.hs_plain.specs.Valid.{IsValid, rises_above}
 use Rattle.hs_plain.proofs.ValidTrees.{first, second}
 use Rattle.hs_plain.proofs.ValidLists.{In, contains-in}
 use Rattle.inode_table.specs.Reads.{Has}
-use Rattle.namenode_read.specs.Places.{place_asked, IsThere}
-
-err_ok : {X : Type 0} {why : Refusal} {x : X} → ◌≡◌ {A = Asked X} (Err why) (Ok x) → ⊥
-err_ok e = cc
-
-pub ok_same : {X : Type 0} {x y : X} → ◌≡◌ {A = Asked X} (Ok x) (Ok y) → x ≡ y
-ok_same e = cc
-
--- a test and the next one gave something
-pub given : {X Y : Type 0} (asked : Asked X) (next : X → Asked Y) (y : Y) → (asked >>= next) ≡ Ok y → (x : X) × (asked ≡ Ok x) × (next x ≡ Ok y)
-given (Ok x) next y e = (x, refl, e)
-given (Err why) next y e = absurd (err_ok e)
+use Rattle.paged_listing.specs.Places.{IsThere}
+use Rattle.paged_listing.proofs.Chains.{err_ok, ok_same, given}
+use Rattle.namenode_read.specs.Places.{place_asked}
 
 found_so : (o : Option (Node FileBlocks)) (n : Node FileBlocks) → found o ≡ Ok n → o ≡ Some n
 found_so None n e = absurd (err_ok e)

@@ -1,7 +1,7 @@
 -- Snapshottable directories and their snapshots, by rows and in the plain state.
-use Rattle.std.proofs.Common.{◌≡◌, ℕ, ◌<◌, ◌≤◌, Bool, true, false, cond, not, List, [], ◌∷◌, map, Option, Some, None, Ok, Err, refl, sym, ap, ◌∙◌, arith}
+use Rattle.std.proofs.Common.{◌≡◌, ℕ, Bool, true, false, cond, not, List, [], ◌∷◌, map, Option, Some, None, Ok, Err, refl, sym, ap, ◌∙◌}
 use Rattle.std.specs.Prelude.{◌==◌}
-use Rattle.std.specs.List.{filter_map, AllByRecursion}
+use Rattle.std.specs.List.{filter_map}
 use Rattle.std.specs.Option.{option_map}
 use Rattle.std.specs.Cmp.{nat_eq_equiv}
 use Rattle.hs_types.specs.declared.ids.InodeId.{InodeId}
@@ -19,9 +19,8 @@ use Rattle.hs_plain.specs.State.{is_snapshottable}
 use Rattle.hs_plain.specs.Reading.{directory_there, live_directory, snap_item}
 use Rattle.hs_plain.proofs.ValidShapes.{none_some, same_some}
 use Rattle.std.specs.FinMap.Entries.{is_sorted}
-use Rattle.snapshot_manager.specs.Snapshots.{Snapshots, IsProper, IdsRise, snaps_of, snaps_in}
+use Rattle.snapshot_manager.specs.Snapshots.{Snapshots, snaps_in}
 use Rattle.snapshot_manager.specs.Members.{of_dir}
-use Rattle.snapshot_manager.proofs.Histories.{history_of}
 use Rattle.inode_table.specs.Joined.{told}
 use Rattle.inode_table.specs.Reads.{ReadsAs, IsNodes, Has}
 use Rattle.inode_table.specs.RowHistory.{Table, RowHistory, File, Dir, rows_at, shown, node_in}
@@ -29,9 +28,8 @@ use Rattle.inode_table.specs.Stands.{root_id}
 use Rattle.inode_table.specs.Tabled.{Tabled}
 use Rattle.inode_table.specs.Whole.{StandsFor}
 use Rattle.namenode_read.specs.ByRows.{directory_in, live_directory_found, may_have, snapshottable_found}
-use Rattle.namenode_read.specs.Places.{IsThere}
-use Rattle.path_resolver.proofs.Later.{later, all_later}
-use Rattle.namenode_read.proofs.Stats.{AreSound, place_has, row_shows, are_sound, live_is, copy_is, copy_sorted}
+use Rattle.paged_listing.specs.Places.{IsThere}
+use Rattle.paged_listing.proofs.Trees.{AreSound, place_has, row_shows, are_sound, live_is, copy_is, copy_sorted}
 
 -- what is asked of a place for its snapshottable directory
 abbrev pub asked_directory : State FileBlocks → Place → Asked InodeId
@@ -39,31 +37,6 @@ asked_directory state place = do
   dir ← live_directory state place
   there ← refuse_if (not (is_snapshottable state dir)) NotSnapshottable
   Ok dir
-
--- ---- snapshots one after another
-
-abbrev pub id_of : SnapItem → ℕ
-id_of item = item.id.0
-
-module _ (snaps : Snapshots) (proper : IsProper snaps) (dir : InodeId) where
-  pub rises : IdsRise (snaps_in snaps dir)
-  rises = by (snaps_of snaps dir) refl
-    where
-      by : (o : Option (List SnapItem)) → snaps_of snaps dir ≡ o → IdsRise (snaps_in snaps dir)
-      by None e = rw e tt
-      by (Some items) e = rw e (history_of snaps dir items proper e).rise
-
-  -- each is later than 0
-  pub all_above : later id_of 0 (snaps_in snaps dir) ≡ snaps_in snaps dir
-  all_above = by (snaps_of snaps dir) refl
-    where
-      above : (n : ℕ) (items : List SnapItem) → AllByRecursion (λ item. (0 < item.id.0) × (item.id.0 ≤ n)) items → AllByRecursion (λ m. 0 < m) (map id_of items)
-      above n [] all = tt
-      above n (item ∷ items) all = (all.0.0, above n items all.1)
-
-      by : (o : Option (List SnapItem)) → snaps_of snaps dir ≡ o → later id_of 0 (snaps_in snaps dir) ≡ snaps_in snaps dir
-      by None e = rw e refl
-      by (Some items) e = rw e (all_later id_of 0 0 items (omega arith) (above snaps.issued.0 items (history_of snaps dir items proper e).in_range))
 
 -- ---- what is shown of them
 

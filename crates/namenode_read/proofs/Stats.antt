@@ -1,7 +1,7 @@
 -- What rows tell of a place that is there is what the plain state answers.
 use Rattle.std.proofs.Common.{◌≡◌, ℕ, suc, Bool, true, false, List, [], ◌∷◌, map, length, Option, Some, None, Ok, refl, sym, ap, ◌∙◌}
 use Rattle.std.specs.Prelude.{◌==◌}
-use Rattle.std.specs.List.{Contains, filter}
+use Rattle.std.specs.List.{filter}
 use Rattle.std.specs.Option.{option_map}
 use Rattle.std.specs.Cmp.{nat_eq_equiv}
 use Rattle.std.specs.FinMap.Entries.{is_sorted}
@@ -26,11 +26,8 @@ use Rattle.hs_plain.specs.Reading.{node_stat, list_stat, stat_at}
 use Rattle.hs_plain.proofs.ValidShapes.{none_some, same_some, true_false}
 use Rattle.hs_plain.proofs.ValidLists.{all_so}
 use Rattle.hs_plain.proofs.ValidDirs.{listed_so}
-use Rattle.hs_plain.proofs.Trees.{place_there, place_node}
-use Rattle.dir_changes.specs.Entries.{in_order}
+use Rattle.hs_plain.proofs.Trees.{place_node}
 use Rattle.dir_changes.specs.History.{DirHistory, children_at}
-use Rattle.dir_changes.specs.Sound.{IsSound}
-use Rattle.dir_changes.proofs.OrderLaws.{in_order-children_at}
 use Rattle.snapshot_manager.specs.Snapshots.{Snapshots, snaps_in}
 use Rattle.snapshot_manager.specs.Members.{of_dir}
 use Rattle.inode_table.specs.Joined.{told}
@@ -40,35 +37,15 @@ use Rattle.inode_table.specs.RowHistory.{Table, RowHistory, File, Dir, rows_at, 
 use Rattle.inode_table.specs.Stands.{root_id}
 use Rattle.inode_table.specs.Tabled.{Tabled}
 use Rattle.inode_table.specs.Whole.{StandsFor}
-use Rattle.inode_table.proofs.Giving.{from-valid, all_at}
-use Rattle.inode_table.proofs.Listing.{reads-listed}
 use Rattle.namenode_read.specs.ByRows.{stat_in, list_stat_in, stat_found}
-use Rattle.namenode_read.specs.Places.{IsThere}
-
--- each directory's row is sound
-abbrev pub AreSound : Table → Type 0
-AreSound table = (id : InodeId) (dir : DirHistory) → rows_at table id ≡ Some (Dir dir) → IsSound dir
+use Rattle.paged_listing.specs.Places.{IsThere}
+use Rattle.paged_listing.proofs.Trees.{AreSound, place_has, row_shows, entries_listed, are_sound, live_is, copy_is, copy_sorted}
 
 -- ---- one tree
 
 module _ (table : Table) (s : ℕ) (sound : AreSound table) (top : InodeId) (tree : Tree FileBlocks) (sorted : is_sorted path_cmp tree ≡ true) (is : IsNodes (node_at tree)) (reads : ReadsAs (shown table s) top (node_at tree)) where
-  pub place_has : (id : InodeId) (has : Has (node_at tree) id) → place_of tree id ≡ Some (has.at, has.node)
-  place_has id has = place_there tree sorted (λ p q a b at bt same. is.once p q a b at bt (λ i. record { 0 = same i })) id has.at has.node has.is (ap (λ (i : InodeId). i.0) has.named)
-
-  -- the row of a node shows it
-  pub row_shows : (id : InodeId) (has : Has (node_at tree) id) → option_map (node_in id s) (rows_at table id) ≡ Some has.node
-  row_shows id has = ap (λ (i : InodeId). option_map (node_in i s) (rows_at table i)) (sym has.named) ∙ reads.node has.at has.node has.is
-
-  -- a directory's entries are its items
-  pub entries_listed : (id : InodeId) (dir : DirHistory) (has : Has (node_at tree) id) → rows_at table id ≡ Some (Dir dir) → children_at s dir ≡ map entry_of (listing tree has.at)
-  entries_listed id dir has e =
-      let at : rows_at table has.node.id ≡ Some (Dir dir) = ap (rows_at table) has.named ∙ e in
-      let entries : (shown table s).entries has.node.id ≡ children_at s dir = rw at refl in
-      sym entries
-      ∙ reads-listed (shown table s) top tree has.at has.node sorted reads has.is (ap (λ (es : List (List ℕ × InodeId)). in_order es) entries ∙ in_order-children_at dir (sound id dir e) s)
-
   pub stat_told : (id : InodeId) → Has (node_at tree) id → node_stat block_files tree (place_of tree id) ≡ stat_in s id (rows_at table id)
-  stat_told id has = ap (node_stat block_files tree) (place_has id has) ∙ by (rows_at table id) refl (row_shows id has)
+  stat_told id has = ap (node_stat block_files tree) (place_has table s sound top tree sorted is reads id has) ∙ by (rows_at table id) refl (row_shows table s sound top tree sorted is reads id has)
     where
       by : (o : Option RowHistory) → rows_at table id ≡ o → option_map (node_in id s) o ≡ Some has.node → node_stat block_files tree (Some (has.at, has.node)) ≡ stat_in s id o
       by None e shows = absurd (none_some shows)
@@ -77,12 +54,12 @@ module _ (table : Table) (s : ℕ) (sound : AreSound table) (top : InodeId) (tre
           ap (λ (n : Node FileBlocks). node_stat block_files tree (Some (has.at, n))) (sym same)
       by (Some (Dir dir)) e shows =
           let same : node_in id s (Dir dir) ≡ has.node = same_some shows in
-          let count : length (listing tree has.at) ≡ length (children_at s dir) = sym (length-map (listing tree has.at) entry_of) ∙ ap length (sym (entries_listed id dir has e)) in
+          let count : length (listing tree has.at) ≡ length (children_at s dir) = sym (length-map (listing tree has.at) entry_of) ∙ ap length (sym (entries_listed table s sound top tree sorted is reads id dir has e)) in
           ap (λ (n : Node FileBlocks). node_stat block_files tree (Some (has.at, n))) (sym same)
           ∙ ap (λ n. Ok (replies.Stat id true (node_in id s (Dir dir)).mode (node_in id s (Dir dir)).stamp n)) count
 
   pub list_told : (snapshots : ℕ) (id : InodeId) (has : Has (node_at tree) id) → is_dir has.node ≡ true → list_stat snapshots (place_of tree id) ≡ (list_stat snapshots (Some (has.at, has.node)))
-  list_told snapshots id has dir = ap (list_stat snapshots) (place_has id has)
+  list_told snapshots id has dir = ap (list_stat snapshots) (place_has table s sound top tree sorted is reads id has)
 
 -- ---- the whole
 
@@ -99,18 +76,6 @@ count_told : (members : List (Member FileBlocks)) (dir : InodeId) → length (of
 count_told members dir = length-map (filter (λ m. dir.0 == m.0.0) (map told members)) (λ m. m.1) ∙ count_filtered dir members ∙ length-filter (λ m. same_inode m.directory dir) members
 
 module _ (table : Tabled) (snaps : Snapshots) (state : State FileBlocks) (all : StandsFor table snaps state) where
-  pub are_sound : AreSound table.rows
-  are_sound = all.records.undoable
-
-  pub live_is : IsNodes (node_at state.tree)
-  live_is = (from-valid state all.valid).live
-
-  pub copy_is : (m : Member FileBlocks) → Contains state.members m → IsNodes (node_at m.tree)
-  copy_is = (from-valid state all.valid).copies
-
-  pub copy_sorted : (m : Member FileBlocks) → Contains state.members m → is_sorted path_cmp m.tree ≡ true
-  copy_sorted m within = all_at (λ (o : Member FileBlocks). is_sorted path_cmp o.tree) state.members m all.valid.copies_sorted within
-
   -- a snapshottable directory stands in the live tree
   pub dir_has : (dir : InodeId) → is_snapshottable state dir ≡ true → (has : Has (node_at state.tree) dir) × (is_dir has.node ≡ true)
   dir_has dir may = by (place_of state.tree dir) refl (all_so (λ id. is_dir_place (place_of state.tree id)) state.snapshottable all.valid.snapshottable_dirs dir (listed_so state.snapshottable dir may))
@@ -118,12 +83,12 @@ module _ (table : Tabled) (snaps : Snapshots) (state : State FileBlocks) (all : 
       by : (o : Option (Names × Node FileBlocks)) → place_of state.tree dir ≡ o → is_dir_place o ≡ true → (has : Has (node_at state.tree) dir) × (is_dir has.node ≡ true)
       by None e is = absurd (true_false is refl)
       by (Some place) e is =
-          let at = place_node state.tree all.valid.sorted (λ p q a b at bt same. live_is.once p q a b at bt (λ i. record { 0 = same i })) dir place.0 place.1 e in
+          let at = place_node state.tree all.valid.sorted (λ p q a b at bt same. (live_is table snaps state all).once p q a b at bt (λ i. record { 0 = same i })) dir place.0 place.1 e in
           (record { at = place.0; node = place.1; is = at.0; named = λ i. record { 0 = at.1 i } }, is)
 
   -- and its row is a directory's
   pub dir_row : (dir : InodeId) → is_snapshottable state dir ≡ true → (history : DirHistory) × (rows_at table.rows dir ≡ Some (Dir history))
-  dir_row dir may = let d = dir_has dir may in by d.0 d.1 (rows_at table.rows dir) refl (row_shows table.rows 0 are_sound root_id state.tree all.valid.sorted live_is all.stands.live dir d.0)
+  dir_row dir may = let d = dir_has dir may in by d.0 d.1 (rows_at table.rows dir) refl (row_shows table.rows 0 (are_sound table snaps state all) root_id state.tree all.valid.sorted (live_is table snaps state all) all.stands.live dir d.0)
     where
       by : (has : Has (node_at state.tree) dir) → is_dir has.node ≡ true → (o : Option RowHistory) → rows_at table.rows dir ≡ o → option_map (node_in dir 0) o ≡ Some has.node → (history : DirHistory) × (rows_at table.rows dir ≡ Some (Dir history))
       by has is None e shows = absurd (none_some shows)
@@ -137,19 +102,19 @@ module _ (table : Tabled) (snaps : Snapshots) (state : State FileBlocks) (all : 
   list_found dir may =
       let d = dir_has dir may in
       let row = dir_row dir may in
-      let shows : option_map (node_in dir 0) (rows_at table.rows dir) ≡ Some d.0.node = row_shows table.rows 0 are_sound root_id state.tree all.valid.sorted live_is all.stands.live dir d.0 in
+      let shows : option_map (node_in dir 0) (rows_at table.rows dir) ≡ Some d.0.node = row_shows table.rows 0 (are_sound table snaps state all) root_id state.tree all.valid.sorted (live_is table snaps state all) all.stands.live dir d.0 in
       let same : node_in dir 0 (Dir row.0) ≡ d.0.node = same_some (rw row.1 at shows) in
-      ap (list_stat (snapshots_of state.members dir)) (place_has table.rows 0 are_sound root_id state.tree all.valid.sorted live_is all.stands.live dir d.0)
+      ap (list_stat (snapshots_of state.members dir)) (place_has table.rows 0 (are_sound table snaps state all) root_id state.tree all.valid.sorted (live_is table snaps state all) all.stands.live dir d.0)
       ∙ ap (λ (n : Node FileBlocks). list_stat (snapshots_of state.members dir) (Some (d.0.at, n))) (sym same)
       ∙ ap (λ n. list_stat_in n dir (Some (Dir row.0))) (count_snaps dir)
       ∙ ap (list_stat_in (length (snaps_in snaps dir)) dir) (sym row.1)
 
   -- what is found at a place that is there
   pub stat_there : (place : Place) → IsThere state place → stat_found table.rows snaps place ≡ stat_at block_files state place
-  stat_there (places.Live id) there = sym (stat_told table.rows 0 are_sound root_id state.tree all.valid.sorted live_is all.stands.live id there)
+  stat_there (places.Live id) there = sym (stat_told table.rows 0 (are_sound table snaps state all) root_id state.tree all.valid.sorted (live_is table snaps state all) all.stands.live id there)
   stat_there (places.Frozen id snapshot) there =
       let m = there.member in
       sym (ap (λ (a : Asked (Member FileBlocks)). a >>= λ member. node_stat block_files member.tree (place_of member.tree id)) there.found
-      ∙ stat_told table.rows m.snapshot.0 are_sound m.directory m.tree (copy_sorted m there.within) (copy_is m there.within) (all.stands.frozen m there.within) id there.has
+      ∙ stat_told table.rows m.snapshot.0 (are_sound table snaps state all) m.directory m.tree (copy_sorted table snaps state all m there.within) (copy_is table snaps state all m there.within) (all.stands.frozen m there.within) id there.has
       ∙ ap (λ (k : SnapId). stat_in k.0 id (rows_at table.rows id)) there.named)
   stat_there (places.SnapshotsOf dir) there = sym (list_found dir there)

@@ -1,18 +1,13 @@
 -- What the rows of a place that is there tell to reading calls. For proofs: contracts speak of the plain state's replies.
-use Rattle.std.specs.Prelude.{ℕ, true, false, Bool, if◌then◌else◌, List, [], ◌∷◌, map, length, is_some, Option, Some, None, Ok, Err}
+use Rattle.std.specs.Prelude.{ℕ, true, false, if◌then◌else◌, length, is_some, Option, Some, None, Ok, Err}
 use Rattle.hs_types.specs.declared.ids.InodeId.{InodeId}
-use Rattle.hs_types.specs.declared.name.SnapItem.{SnapItem}
-use Rattle.hs_types.specs.declared.reply.Item.{Item}
 use Rattle.hs_types.specs.declared.reply.Reply.{Reply}
 use Rattle.hs_types.specs.declared.reply.Reply.TheVariants as replies
 use Rattle.hs_types.specs.declared.refusal.Refusal.TheVariants.{NotFound, NotDir, NotSnapshottable}
 use Rattle.hs_types.specs.declared.call.Place.{Place}
 use Rattle.hs_types.specs.declared.call.Place.TheVariants as places
 use Rattle.hs_plain.specs.Asked.{Asked, ◌>>=◌}
-use Rattle.hs_plain.specs.State.{with_item}
-use Rattle.hs_plain.specs.Pages.{page_of}
 use Rattle.file_changes.specs.History.{FileHistory, state_at}
-use Rattle.dir_changes.specs.Entries.{Entry}
 use Rattle.dir_changes.specs.History.{DirHistory, children_at, marks_at}
 use Rattle.snapshot_manager.specs.Snapshots.{Snapshots, snaps_of, snaps_in}
 use Rattle.inode_table.specs.RowHistory.{Table, RowHistory, File, Dir, rows_at}
@@ -60,35 +55,3 @@ may_have snaps dir = if is_some (snaps_of snaps dir) then Ok dir else Err NotSna
 
 abbrev pub snapshottable_found : Table → Snapshots → Place → Asked InodeId
 snapshottable_found table snaps place = live_directory_found table place >>= may_have snaps
-
--- ---- items
-
-abbrev pub is_dir_row : Option RowHistory → Bool
-is_dir_row None = false
-is_dir_row (Some (File file)) = false
-is_dir_row (Some (Dir dir)) = true
-
--- an entry as it is shown
-abbrev pub item_in : Table → Entry → Item
-item_in table entry = record { name = entry.0; id = entry.1; is_dir = is_dir_row (rows_at table entry.1) }
-
-abbrev pub items_in : Table → ℕ → Option RowHistory → Asked (List Item)
-items_in table s None = Err NotFound
-items_in table s (Some (File file)) = Err NotDir
-items_in table s (Some (Dir dir)) = Ok (map (item_in table) (children_at s dir))
-
--- snapshots of a directory as items, in name order
-abbrev pub snap_items : InodeId → List SnapItem → List Item
-snap_items dir [] = []
-snap_items dir (item ∷ items) = with_item (record { name = item.name; id = dir; is_dir = true }) (snap_items dir items)
-
-abbrev pub items_found : Table → Snapshots → Place → Asked (List Item)
-items_found table snaps (places.Live id) = items_in table 0 (rows_at table id)
-items_found table snaps (places.Frozen id snapshot) = items_in table snapshot.0 (rows_at table id)
-items_found table snaps (places.SnapshotsOf dir) = Ok (snap_items dir (snaps_in snaps dir))
-
--- a page of it behind a name
-abbrev pub page_found : Table → Snapshots → Option (List ℕ) → ℕ → Place → Asked Reply
-page_found table snaps after size place = do
-  items ← items_found table snaps place
-  Ok (page_of place items after size)

@@ -1,18 +1,14 @@
--- Where a text leads, and what is there. For proofs: contracts speak of the plain state's replies.
-use Rattle.std.specs.Prelude.{◌≡◌, ℕ, List, true, Ok}
-use Rattle.std.specs.List.{Contains}
+-- Where a text leads, and what a report begins with. For proofs: contracts speak of the plain state's replies.
+use Rattle.std.specs.Prelude.{ℕ, List, None, Ok}
 use Rattle.hs_types.specs.Paths.{path_of}
 use Rattle.hs_types.specs.declared.ids.InodeId.{InodeId}
-use Rattle.hs_types.specs.declared.ids.SnapId.{SnapId}
 use Rattle.hs_types.specs.declared.call.Place.{Place}
-use Rattle.hs_types.specs.declared.call.Place.TheVariants as places
-use Rattle.hs_plain.specs.declared.state.Member.{Member}
+use Rattle.hs_types.specs.declared.call.Point.{Point}
+use Rattle.hs_types.specs.declared.call.ReportCursor.{ReportCursor}
 use Rattle.hs_plain.specs.declared.state.State.{State}
-use Rattle.hs_plain.specs.declared.state.FileBlocks.{FileBlocks}
 use Rattle.hs_plain.specs.Asked.{Asked, ◌>>=◌}
-use Rattle.hs_plain.specs.Tree.{node_at}
-use Rattle.hs_plain.specs.State.{resolve, member_with, is_snapshottable}
-use Rattle.inode_table.specs.Reads.{Has}
+use Rattle.hs_plain.specs.State.{resolve}
+use Rattle.hs_plain.specs.Reading.{point_id}
 
 -- where the text of a path leads
 abbrev pub place_asked : {B : Type 0} → State B → List ℕ → Asked Place
@@ -20,16 +16,9 @@ place_asked state text = do
   path ← path_of text
   resolve state path
 
--- the copied tree of a snapshot has the inode
-pub record IsCopied (state : State FileBlocks) (snapshot : SnapId) (id : InodeId) : Type 0 where
-  pub member : Member FileBlocks
-  pub within : Contains state.members member
-  pub named : member.snapshot ≡ snapshot
-  pub found : member_with state.members snapshot ≡ Ok member
-  pub has : Has (node_at member.tree) id
-
--- the state has the place
-abbrev pub IsThere : State FileBlocks → Place → Type 0
-IsThere state (places.Live id) = Has (node_at state.tree) id
-IsThere state (places.Frozen id snapshot) = IsCopied state snapshot id
-IsThere state (places.SnapshotsOf dir) = is_snapshottable state dir ≡ true
+-- the cursor of the first page of a report
+abbrev pub first_cursor : {B : Type 0} → State B → InodeId → Point → Point → Asked ReportCursor
+first_cursor state root from to = do
+  first ← point_id state root from
+  last ← point_id state root to
+  Ok (record { root = root; from = first; to = last; tick = None; index = 0 })

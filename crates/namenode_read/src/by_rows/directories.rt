@@ -1,15 +1,19 @@
 //! All snapshottable directories, by rows: each path is found by going up, and they are put in order then.
-ghost use Rattle.std.specs.Prelude.{◌≡◌, ◌++◌, ◌∷◌, [], map, IfOk, OnOk, length};
+ghost use Rattle.std.specs.Prelude.{◌≡◌, ◌++◌, ◌∷◌, [], map, Ok, IfOk, OnOk, MatchResult, length};
+ghost use Rattle.hs_types.specs.declared.call.Call.TheVariants.{Dirs};
 ghost use Rattle.hs_plain.specs.declared.state.State.{State};
 ghost use Rattle.hs_plain.specs.declared.state.FileBlocks.{FileBlocks};
-ghost use Rattle.hs_plain.specs.Reading.{dirs_reply};
+ghost use Rattle.hs_plain.specs.Answer.{asked};
+ghost use Rattle.hs_plain.specs.Files.{block_files};
+ghost use Rattle.hs_plain.specs.inside.Faults.{IsFaultOf};
 ghost use Rattle.snapshot_manager.specs.Snapshots.{snaps_in};
 ghost use Rattle.inode_table.specs.Kept.{told};
 ghost use Rattle.inode_table.specs.Whole.{StandsFor};
 ghost use Rattle.namenode_read.specs.Directories.{keyed, put_at, with_dir, with_dirs, as_dir, dirs_found};
 
+use hs_plain::AskFault;
 use hs_types::{DirItem, InodeId, List, Name, NoMemory, PathText, RelPath, Reply, SnapId};
-use inode_table::Table;
+use inode_table::{Counted, Table};
 use path_resolver::upward::path_down;
 use snapshot_manager::Snaps;
 use std::alloc::Global;
@@ -66,7 +70,8 @@ fn place_dir(
     ensures { OnOk result (keyed places.new.entries ≡ with_dir (told table.now) snaps.now dir (keyed places.old.entries)) }
 {
     let count = snapshot_count(snaps, dir)?;
-    let path = path_down(alloc, table, SnapId(0), InodeId::ROOT, dir)?;
+    let mut table = Counted::new(table);
+    let path = path_down(alloc, &mut table, SnapId(0), InodeId::ROOT, dir)?;
     put_at(places, path, (dir, count))
 }
 
@@ -122,8 +127,8 @@ fn dirs_by_rows(alloc: Global, table: &Table, snaps: &Snaps) -> Result<List<DirI
 }
 
 /// All snapshottable directories, in path order.
-pub fn dirs(alloc: Global, table: &Table, snaps: &Snaps) -> Result<Reply, NoMemory>
-    ensures { IfOk result (λ reply. (state : State FileBlocks) → StandsFor (told table.now) snaps.now state → reply ≡ dirs_reply state) }
+pub fn dirs(alloc: Global, table: &Table, snaps: &Snaps) -> Result<Reply, AskFault>
+    ensures { (state : State FileBlocks) → StandsFor (told table.now) snaps.now state → MatchResult result (λ reply. asked block_files state Dirs ≡ Ok reply) (IsFaultOf (asked block_files state Dirs)) }
 {
     Ok(Reply::Dirs {
         list: dirs_by_rows(alloc, table, snaps)?,

@@ -1,19 +1,16 @@
 //! Where the text of a path leads by rows.
 ghost use Rattle.std.specs.Prelude.{◌≡◌, Ok, MatchResult};
-ghost use Rattle.std.specs.Option.{option_copied, option_map};
 ghost use Rattle.hs_plain.specs.declared.state.State.{State};
 ghost use Rattle.hs_plain.specs.declared.state.FileBlocks.{FileBlocks};
 ghost use Rattle.hs_plain.specs.inside.Faults.{IsFaultOf};
 ghost use Rattle.inode_table.specs.Kept.{told};
-ghost use Rattle.inode_table.specs.Numbered.{history_of};
-ghost use Rattle.inode_table.specs.RowHistory.{rows_at};
 ghost use Rattle.inode_table.specs.Whole.{StandsFor};
 ghost use Rattle.namenode_read.specs.Places.{place_asked};
 
 use hs_plain::AskFault;
 use hs_plain::answer::read_path;
-use hs_types::{InodeId, PathText, Place};
-use inode_table::{Rows, Table};
+use hs_types::{PathText, Place};
+use inode_table::Table;
 use path_resolver::by_rows::resolve;
 use snapshot_manager::Snaps;
 use std::alloc::Global;
@@ -29,14 +26,4 @@ pub fn place_of(
 {
     let path = read_path(alloc, text)?;
     Ok(resolve(table, snaps, &path)?)
-}
-
-/// What an inode is now and was at each snapshot.
-pub fn rows_of(table: &Table, id: InodeId) -> Option<&Rows>
-    ensures { option_map history_of (option_copied result) ≡ rows_at (told table.now).rows id }
-{
-    match table.row(id) {
-        None => None,
-        Some(row) => Some(&row.rows),
-    }
 }

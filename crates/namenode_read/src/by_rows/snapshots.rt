@@ -1,21 +1,19 @@
 //! Snapshottable directories and their snapshots, by rows.
-ghost use Rattle.std.specs.Prelude.{◌≡◌, ◌++◌, ◌∷◌, [], Ok, IfOk, OnOk, MatchResult};
+ghost use Rattle.std.specs.Prelude.{◌≡◌, Ok, MatchResult};
 ghost use Rattle.hs_plain.specs.declared.state.State.{State};
 ghost use Rattle.hs_plain.specs.declared.state.FileBlocks.{FileBlocks};
 ghost use Rattle.hs_plain.specs.Reading.{snapshottable_at, snaps_reply};
 ghost use Rattle.hs_plain.specs.inside.Faults.{IsFaultOf};
-ghost use Rattle.snapshot_manager.specs.Snapshots.{snaps_in};
 ghost use Rattle.inode_table.specs.Kept.{told};
 ghost use Rattle.inode_table.specs.RowHistory.{rows_at};
 ghost use Rattle.inode_table.specs.Whole.{StandsFor};
 ghost use Rattle.namenode_read.specs.ByRows.{directory_in, live_directory_found, snapshottable_found};
 
-use crate::by_rows::place::{place_of, rows_of};
+use crate::by_rows::place::place_of;
 use hs_plain::AskFault;
-use hs_types::{
-    Duplicate, InodeId, List, NoMemory, PathText, Place, Refusal, Reply, SnapId, SnapItem,
-};
+use hs_types::{InodeId, PathText, Place, Refusal, Reply};
 use inode_table::{Rows, Table};
+use paged_listing::{rows_of, snapshot_list};
 use snapshot_manager::Snaps;
 use std::alloc::Global;
 
@@ -73,28 +71,6 @@ pub fn snapshottable_at(
 {
     let place = place_of(alloc, table, snaps, path)?;
     found_directory(table, snaps, place)
-}
-
-/// Adds a copy of a snapshot as it is shown.
-fn push_copy(list: &mut Vec<SnapItem>, item: &SnapItem) -> Result<(), NoMemory>
-    ensures { OnOk result (list.new.items ≡ list.old.items ++ item.now ∷ []) }
-{
-    list.push(item.copy()?)?;
-    Ok(())
-}
-
-/// The snapshots of a directory as they are shown, in order of making.
-pub fn snapshot_list(alloc: Global, snaps: &Snaps, dir: InodeId) -> Result<List<SnapItem>, NoMemory>
-    ensures { IfOk result (λ list. list ≡ snaps_in snaps.now dir) }
-{
-    snaps.always();
-    let mut list = Vec::new(alloc);
-    let mut last = SnapId(0);
-    while let Some(item) = snaps.snap_after(dir, last) {
-        push_copy(&mut list, item)?;
-        last = item.id;
-    }
-    Ok(List::of(list))
 }
 
 /// The snapshots of the directory at a path, in order of making.

@@ -12,12 +12,13 @@ ghost use Rattle.inode_table.specs.RowHistory.{rows_at};
 ghost use Rattle.inode_table.specs.Whole.{StandsFor};
 ghost use Rattle.namenode_read.specs.ByRows.{file_stat, dir_stat, stat_in, list_stat_in, stat_found};
 
-use crate::by_rows::place::{place_of, rows_of};
+use crate::by_rows::place::place_of;
 use dir_changes::DirRows;
 use file_changes::FileRows;
 use hs_plain::AskFault;
 use hs_types::{InodeId, NoMemory, PathText, Place, Refusal, Reply, SnapId};
 use inode_table::{Rows, Table};
+use paged_listing::rows_of;
 use snapshot_manager::Snaps;
 use std::alloc::Global;
 

@@ -1,20 +1,39 @@
-use Rattle.std.proofs.Common.{◌≡◌, Bool, true, false, ◌&&◌, ◌||◌, not, refl, sym, ◌∙◌}
-use Rattle.hs_plain.specs.Answer.{is_modifying, uses_store}
-use Rattle.hs_plain.proofs.Stands.{any_answer_stands}
-use Rattle.namenode_read.proofs.Chains.{told_as}
+use Rattle.std.proofs.Common.{ℕ, sym, ap, ◌∙◌}
+use Rattle.hs_plain.specs.declared.state.State.{State}
+use Rattle.namenode_read.proofs.Chains.{shared_answer}
 use Rattle.namenode_read.proofs.by_rows.ask.Goals as goal
 
--- a call beside others reads no file
-reads_none : (modifying stored : Bool) → not (modifying || stored) ≡ true → (stored && not modifying) ≡ false
-reads_none true stored shared = absurd (cc)
-reads_none false true shared = absurd (cc)
-reads_none false false shared = refl
-
--- the plain state answers as the state with blocks
-pub returns : goal.returns
-returns c = record {
-  answered = λ state plain all sized told.
+pub returns-in-Stat : goal.returns-in-Stat
+returns-in-Stat c = record {
+  answered = λ state plain all sized tick told.
       c.reply_of.ensures
-      ∙ told_as c.asked.result _ (c.asked.ensures state all) (λ none. told (c.reply_of.ensures ∙ none))
-      ∙ sym (any_answer_stands state plain sized c.args.call.now (reads_none (is_modifying c.args.call.now) (uses_store c.args.call.now) c.requires.shared));
+      ∙ shared_answer state plain sized c.args.call.now _ c.requires.shared c.in-Stat.is c.stat.result (c.stat.ensures state all) (λ none. told (c.reply_of.ensures ∙ none));
+}
+
+pub returns-in-List : goal.returns-in-List
+returns-in-List c = record {
+  answered = λ state plain all sized tick told.
+      c.reply_of-in-List.ensures
+      ∙ shared_answer state plain sized c.args.call.now _ c.requires.shared c.in-List.is c.list.result (c.list.ensures state all) (λ none. told (c.reply_of-in-List.ensures ∙ none));
+}
+
+pub returns-in-Snaps : goal.returns-in-Snaps
+returns-in-Snaps c = record {
+  answered = λ state plain all sized tick told.
+      c.reply_of-in-Snaps.ensures
+      ∙ shared_answer state plain sized c.args.call.now _ c.requires.shared c.in-Snaps.is c.snaps.result (c.snaps.ensures state all) (λ none. told (c.reply_of-in-Snaps.ensures ∙ none));
+}
+
+pub returns-in-Dirs : goal.returns-in-Dirs
+returns-in-Dirs c = record {
+  answered = λ state plain all sized tick told.
+      c.reply_of-in-Dirs.ensures
+      ∙ shared_answer state plain sized c.args.call.now _ c.requires.shared c.in-Dirs.is c.dirs.result (c.dirs.ensures state all) (λ none. told (c.reply_of-in-Dirs.ensures ∙ none));
+}
+
+pub returns-in-Report : goal.returns-in-Report
+returns-in-Report c = record {
+  answered = λ state plain all sized tick told.
+      c.reply_of-in-Report.ensures
+      ∙ shared_answer state plain sized c.args.call.now _ c.requires.shared c.in-Report.is c.report_first-page.result (c.report_first-page.ensures state all (tick ∙ sym (ap (λ (s : State ℕ). s.tick) sized))) (λ none. told (c.reply_of-in-Report.ensures ∙ none));
 }

@@ -1,5 +1,6 @@
 use Rattle.inode_table.specs.Kept.{told}
-use Rattle.namenode_read.proofs.Chains.{tells_as, place_err, place_ok}
+use Rattle.paged_listing.proofs.Chains.{tells_as}
+use Rattle.namenode_read.proofs.Chains.{place_err, place_ok}
 use Rattle.namenode_read.proofs.Snapshots.{asked_directory, directory_found}
 use Rattle.namenode_read.proofs.by_rows.snapshots.snapshottable_at.Goals as goal
 

@@ -1,7 +1,8 @@
 use Rattle.hs_plain.specs.Files.{block_files}
 use Rattle.hs_plain.specs.Reading.{stat_at}
 use Rattle.inode_table.specs.Kept.{told}
-use Rattle.namenode_read.proofs.Chains.{tells_as, place_err, place_ok}
+use Rattle.paged_listing.proofs.Chains.{tells_as}
+use Rattle.namenode_read.proofs.Chains.{place_err, place_ok}
 use Rattle.namenode_read.proofs.Stats.{stat_there}
 use Rattle.namenode_read.proofs.by_rows.stat.stat.Goals as goal
 
