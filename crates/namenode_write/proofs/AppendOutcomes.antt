@@ -29,7 +29,7 @@ use Rattle.inode_table.specs.Whole.{StandsFor}
 use Rattle.namenode_write.specs.declared.rows.seats.Seat.{Seat}
 use Rattle.namenode_write.specs.declared.rows.space.RowSpace.{RowSpace}
 use Rattle.namenode_write.specs.Appending.{append_path, HasGrown, IsTried}
-use Rattle.namenode_write.specs.Made.{fault_of}
+use Rattle.namenode_write.specs.Reasons.{fault_of}
 use Rattle.namenode_write.specs.Outcome.{tick_of, is_refusal, HasPlace, IsOutcome}
 use Rattle.namenode_write.specs.RowFiles.{body_of, file_in}
 use Rattle.namenode_write.specs.Rows.{Held, held, all_of, weight, done, IsAt, IsStanding, IsDone}
@@ -83,6 +83,7 @@ module _ {S : Type 0} (blocks : S → Option BlockMap) (greatest faults : S → 
         tells = still-tells (KeepsFile file.current.size file.current.blocks) (blocks before.store) (blocks after.store) tried.kept;
         count = tried.count;
         store = λ none. tried.no_call (none_of bytes none);
+        reads = λ none. absurd (cc);
       }
 
       -- the append is done
@@ -118,11 +119,11 @@ module _ {S : Type 0} (blocks : S → Option BlockMap) (greatest faults : S → 
 
     tried-is : (result : Result Reply AskFault) → IsTried blocks greatest faults before after seat (body_of file.current) bytes result → IsOutcome blocks greatest faults before after call result
     tried-is (Ok reply) tried = subst (λ (r : Reply). IsOutcome blocks greatest faults before after call (Ok r)) (sym tried.reply)
-        (stored-outcome blocks greatest faults before after call replies.Done (grown-done (Ok reply) tried tried.grown) (grown-heavier (Ok reply) tried tried.grown) (asks (Ok reply) tried) refl)
+        (stored-outcome blocks greatest faults before after call replies.Done (grown-done (Ok reply) tried tried.grown) (grown-heavier (Ok reply) tried tried.grown) (asks (Ok reply) tried) (ap all_of tried.grown.waiting) refl)
     tried-is (Err fault) tried =
         store-outcome blocks greatest faults before after call (Err fault) fault tried.fault.0 refl tried.fault.1 refl
         (λ state stands. append-answered state text bytes path (asked state stands))
-        (left-at (Err fault) tried tried.table tried.left) (asks (Err fault) tried)
+        (left-at (Err fault) tried tried.table tried.left) (asks (Err fault) tried) tried.table tried.snaps
         (λ fails. tried.rose (ap (λ (x : AskFault). Err x) (tried.fault.1 ∙ ap fault_of fails)))
 
   tried-outcome : (after : RowSpace S) (bytes : List ℕ) (file : FileBlocks) (result : Result Reply AskFault) → HasPlace before → file_in 0 (rows_at (told before.table).rows seat.id) ≡ Ok file

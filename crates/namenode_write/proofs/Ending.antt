@@ -21,7 +21,7 @@ use Rattle.hs_plain.specs.Replay.{fits_kind, may_follow}
 use Rattle.hs_plain.specs.Legal.{entry_of, leaves_entry}
 use Rattle.hs_plain.proofs.Answers.{answers_own}
 use Rattle.table_laws.proofs.WholePlain.{plain-tick}
-use Rattle.namenode_write.specs.Made.{IsRefusal}
+use Rattle.namenode_write.specs.Reasons.{IsRefusal}
 use Rattle.namenode_write.specs.Outcome.{IsWhy, IsReason}
 use Rattle.namenode_write.specs.Rows.{Held, IsAt, IsDone}
 use Rattle.namenode_write.proofs.Journals.{and_false, ok_no_fault, fault_number, refused_leaves, machine_not_full, store_not_full, store_not_machine, ok_not_full, ok-claimed, leaves_ok}

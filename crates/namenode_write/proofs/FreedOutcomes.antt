@@ -9,7 +9,7 @@ use Rattle.hs_plain.specs.declared.state.State.{State}
 use Rattle.hs_plain.specs.Answer.{is_modifying}
 use Rattle.inode_table.specs.Kept.{told}
 use Rattle.namenode_write.specs.declared.rows.space.RowSpace.{RowSpace}
-use Rattle.namenode_write.specs.Outcome.{tick_of, HasPlace, is_storeless, most_added, IsOutcome}
+use Rattle.namenode_write.specs.Outcome.{tick_of, HasPlace, is_storeless, is_freeing, most_added, IsOutcome}
 use Rattle.namenode_write.specs.Rows.{held, all_of, weight, done, entries, IsAt, IsDone}
 use Rattle.namenode_write.specs.Waiting.{StaysAt}
 use Rattle.namenode_write.proofs.RowFreed.{freed-done}
@@ -18,26 +18,30 @@ module _ {S : Type 0} (blocks : S → Option BlockMap) (greatest faults : S → 
   pub freed-outcome : (before middle after : RowSpace S) (call : Call) (reply : Reply)
       → ((plain : State (List ℕ)) → IsAt (held blocks greatest before) (tick_of before) plain → IsDone (held blocks greatest before) (held blocks greatest middle) (tick_of before) call reply plain)
       → ((plain : State (List ℕ)) → IsAt (held blocks greatest before) (tick_of before) plain → weight (held blocks greatest middle) (done plain call) ≤ weight (held blocks greatest before) plain + most_added call)
-      → middle.store ≡ before.store → middle.journal.items ≡ before.journal.items → middle.limit ≡ before.limit → (is_modifying call ≡ true → HasPlace middle) → is_storeless call ≡ false
+      → middle.store ≡ before.store → middle.journal.items ≡ before.journal.items → middle.limit ≡ before.limit → HasPlace middle → is_modifying call ≡ true → is_storeless call ≡ false → is_freeing call ≡ true
       → after ≡ record middle { store = after.store; waiting = after.waiting }
       → StaysAt (blocks middle.store) (greatest middle.store) middle.waiting.items (blocks after.store) (greatest after.store) after.waiting.items
       → is_some (blocks after.store) ≡ is_some (blocks middle.store) → faults middle.store ≤ faults after.store → ((Rose (faults middle.store) (faults after.store) → ⊥) → after.waiting.items ≡ [])
       → IsOutcome blocks greatest faults before after call (Ok reply)
-  freed-outcome before middle after call reply is heavier store journal limit place uses rest standing tells count freed = record {
+  freed-outcome before middle after call reply is heavier store journal limit place modifies uses frees rest standing tells count freed = record {
     made = λ plain at. freed-done (held blocks greatest before) (held blocks greatest middle) (held blocks greatest after) (tick_of before) call reply plain (is plain at) (stays (entries (tick_of before) call) (done plain call));
     heavier = λ plain at. subst (λ (r : RowSpace S). weight (held blocks greatest r) (done plain call) ≤ weight (held blocks greatest before) plain + most_added call) (sym rest) (heavier plain at);
     cause = tt;
     kept = tt;
     refused = tt;
-    quiet = λ none. tt;
+    undone_table = tt;
+    undone_snaps = tt;
+    undone = λ none. tt;
+    reads = λ none. absurd (cc (modifies, none));
     journal = ap (λ (r : RowSpace S). r.journal.items) rest ∙ journal;
     limit = ap (λ (r : RowSpace S). r.limit) rest ∙ limit;
-    place = λ modifies. let p = place modifies in subst (λ (r : RowSpace S). HasPlace r) (sym rest) (record { below = p.below; most = p.most; room = p.room });
+    place = subst (λ (r : RowSpace S). HasPlace r) (sym rest) (record { below = place.below; most = place.most; room = place.room });
     fault_place = λ fails. absurd (cc);
     tells = tells ∙ ap (λ (s : S). is_some (blocks s)) store;
     count = subst (λ (s : S). faults s ≤ faults after.store) store count;
     rose = λ fails. absurd (cc);
     store = λ none. absurd (cc (uses, none));
+    waits = λ none. absurd (cc (frees, none));
     freed = λ so never. ap all_of (freed (subst (λ (s : S). Rose (faults s) (faults after.store) → ⊥) (sym store) never));
   }
     where

@@ -2,10 +2,12 @@ pub mod AppendTests
 pub mod AppendedCalls
 pub mod AppendOutcomes
 pub mod Causes
-pub mod CountedLaws
+pub mod FaultCountLaws
 pub mod Files
 pub mod Refused
 pub mod RowFiles
+pub mod BareRows
+pub mod ReadAnswers
 pub mod RowReads
 pub mod RowTests
 pub mod Weights

@@ -61,7 +61,7 @@ module _ {S : Type 0} (blocks : S → Option BlockMap) (greatest faults : S → 
 
       pub mkdir-outcome : placed.journal.items ≡ before.journal.items → HasPlace placed → IsOutcome blocks greatest faults before now (calls.Mkdir text) (Ok (replies.Made id))
       mkdir-outcome journal place = done-outcome blocks greatest faults before now (calls.Mkdir text) (replies.Made id) dir-done dir-heavier
-          (ap (λ (r : RowSpace S). r.store) kept) journal (ap (λ (r : RowSpace S). r.limit) kept) (λ so. record { below = place.below; most = place.most; room = place.room }) refl
+          (ap (λ (r : RowSpace S). r.store) kept) journal (ap (λ (r : RowSpace S). r.limit) kept) (record { below = place.below; most = place.most; room = place.room }) refl refl (ap (λ (r : RowSpace S). all_of r.waiting.items) kept)
 
   -- ---- a new file
 
@@ -101,4 +101,4 @@ module _ {S : Type 0} (blocks : S → Option BlockMap) (greatest faults : S → 
           → IsOutcome blocks greatest faults before after (calls.Create text over) (Ok (replies.Made id))
       create-outcome journal place rest standing tells count freed = freed-outcome blocks greatest faults before middle after (calls.Create text over) (replies.Made id) file-done file-heavier same-store
           (ap (λ (r : RowSpace S). r.journal.items) changed ∙ journal) (ap (λ (r : RowSpace S). r.limit) changed ∙ ap (λ (r : RowSpace S). r.limit) kept)
-          (λ so. subst (λ (r : RowSpace S). HasPlace r) (sym changed) (record { below = place.below; most = place.most; room = place.room })) refl rest standing tells count freed
+          (subst (λ (r : RowSpace S). HasPlace r) (sym changed) (record { below = place.below; most = place.most; room = place.room })) refl refl refl rest standing tells count freed

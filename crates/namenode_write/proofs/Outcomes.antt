@@ -14,19 +14,25 @@ use Rattle.hs_plain.specs.declared.resolve.AskFault.{AskFault}
 use Rattle.hs_plain.specs.declared.resolve.AskFault.TheVariants.{Refused, NoMemory}
 use Rattle.hs_plain.specs.Asked.{Asked}
 use Rattle.hs_plain.specs.Files.{block_files}
-use Rattle.hs_plain.specs.Answer.{answer, answer_by, asked, replied, reply_to, is_ok_reply, is_modifying}
+use Rattle.hs_plain.specs.Answer.{answer, answer_by, asked, replied, reply_to, is_modifying, is_ok_reply}
 use Rattle.hs_plain.specs.inside.Faults.{IsFaultOf}
 use Rattle.inode_table.specs.Kept.{told}
 use Rattle.inode_table.specs.Whole.{StandsFor}
 use Rattle.namenode_write.specs.declared.rows.space.RowSpace.{RowSpace}
 use Rattle.namenode_write.specs.declared.rows.seats.Seat.{Seat}
-use Rattle.namenode_write.specs.Made.{IsRefusal}
+use Rattle.namenode_write.specs.Reasons.{IsRefusal}
 use Rattle.namenode_write.specs.Outcome.{tick_of, is_full, HasPlace, IsPlaceFault, IsWhy, IsReason, is_refusal, is_freeing, most_added, IsOutcome}
-use Rattle.namenode_write.specs.Rows.{Held, held, weight, done, IsAt, IsStanding, IsDone}
+use Rattle.namenode_write.specs.Rows.{Held, held, all_of, value_of, weight, done, IsAt, IsStanding, IsDone}
 use Rattle.namenode_write.specs.Seats.{IsSeat}
 use Rattle.namenode_write.proofs.Alike.{blanked_alike}
-use Rattle.namenode_write.proofs.Causes.{same_err, refused-blanked, ok-blanked}
+use Rattle.namenode_write.proofs.Journals.{refused-blanked, ok-blanked}
 use Rattle.namenode_write.proofs.Refused.{asked_never, asked_full}
+
+abbrev failed : {T E : Type 0} → E → Result T E
+failed e = Err e
+
+pub same_err : {T E : Type 0} {x y : E} → failed {T = T} x ≡ Err y → x ≡ y
+same_err h = cc
 
 never-store : {X : Type 0} (a : Asked X) (fault : AskFault) → IsFaultOf a fault → ((why : Refusal) → a ≡ Err why → (number_of why == 23) ≡ false) → fault ≡ Refused refusals.StoreFault → ⊥
 never-store a fault is never same = let n = never refusals.StoreFault (subst (λ (f : AskFault). IsFaultOf a f) same is) in cc
@@ -56,6 +62,10 @@ pub record IsAlike {S : Type 0} (blocks : S → Option BlockMap) (greatest : S �
   pub journal : after.journal.items ≡ before.journal.items
   pub limit : after.limit ≡ before.limit
 
+-- the same value, but for room
+pub alike-value : {S : Type 0} (blocks : S → Option BlockMap) (greatest : S → ℕ) (before after : RowSpace S) → IsAlike blocks greatest before after → value_of after after.journal.items ≡ value_of before before.journal.items
+alike-value blocks greatest before after same = λ i. record { entries = same.journal i; store = same.store i; limit = same.limit i; table = (same.held i).table; snaps = (same.held i).snaps; waiting = (same.held i).waiting }
+
 module _ {S : Type 0} (blocks : S → Option BlockMap) (greatest faults : S → ℕ) where
   pub alike : (space : RowSpace S) → IsAlike blocks greatest space space
   alike space = record { held = refl; store = refl; journal = refl; limit = refl }
@@ -71,7 +81,10 @@ module _ {S : Type 0} (blocks : S → Option BlockMap) (greatest faults : S → 
     cause = λ plain at. subst (IsReason (is_full before) plain call) (sym is) (cause plain at);
     kept = λ plain at. subst (λ (h : Held). IsAt h (tick_of before) plain) (sym same.held) at;
     refused = λ so. refused (ap is_refusal (sym is) ∙ so);
-    quiet = λ none. same.held;
+    undone_table = ap (λ (h : Held). h.table) same.held;
+    undone_snaps = ap (λ (h : Held). h.snaps) same.held;
+    undone = λ none. alike-value blocks greatest before after same;
+    reads = λ none. same.held;
     journal = same.journal;
     limit = same.limit;
     place = tt;
@@ -80,6 +93,7 @@ module _ {S : Type 0} (blocks : S → Option BlockMap) (greatest faults : S → 
     count = subst (λ (s : S). faults before.store ≤ faults s) (sym same.store) (omega arith);
     rose = λ fails. absurd (never (sym is ∙ same_err {T = Reply} fails));
     store = λ none. same.store;
+    waits = λ none. tt;
     freed = λ so. tt;
   }
 
@@ -125,14 +139,17 @@ module _ {S : Type 0} (blocks : S → Option BlockMap) (greatest faults : S → 
   pub done-outcome : (before after : RowSpace S) (call : Call) (reply : Reply) → ((plain : State (List ℕ)) → IsAt (held blocks greatest before) (tick_of before) plain → IsDone (held blocks greatest before) (held blocks greatest after) (tick_of before) call reply plain)
       → ((plain : State (List ℕ)) → IsAt (held blocks greatest before) (tick_of before) plain → weight (held blocks greatest after) (done plain call) ≤ weight (held blocks greatest before) plain + most_added call)
       → after.store ≡ before.store → after.journal.items ≡ before.journal.items → after.limit ≡ before.limit
-      → (is_modifying call ≡ true → HasPlace after) → is_freeing call ≡ false → IsOutcome blocks greatest faults before after call (Ok reply)
-  done-outcome before after call reply is heavier store journal limit place frees = record {
+      → HasPlace after → is_modifying call ≡ true → is_freeing call ≡ false → all_of after.waiting.items ≡ all_of before.waiting.items → IsOutcome blocks greatest faults before after call (Ok reply)
+  done-outcome before after call reply is heavier store journal limit place modifies frees waits = record {
     made = is;
     heavier = heavier;
     cause = tt;
     kept = tt;
     refused = tt;
-    quiet = λ none. tt;
+    undone_table = tt;
+    undone_snaps = tt;
+    undone = λ none. tt;
+    reads = λ none. absurd (cc);
     journal = journal;
     limit = limit;
     place = place;
@@ -141,5 +158,6 @@ module _ {S : Type 0} (blocks : S → Option BlockMap) (greatest faults : S → 
     count = subst (λ (s : S). faults before.store ≤ faults s) (sym store) (omega arith);
     rose = λ fails. absurd (cc);
     store = λ none. store;
+    waits = λ none. waits;
     freed = λ so. absurd (cc);
   }

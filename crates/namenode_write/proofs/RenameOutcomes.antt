@@ -17,7 +17,7 @@ use Rattle.inode_table.specs.Whole.{StandsFor}
 use Rattle.namenode_write.specs.declared.rows.space.RowSpace.{RowSpace}
 use Rattle.namenode_write.specs.Called.{IsCalled}
 use Rattle.namenode_write.specs.Outcome.{tick_of, HasPlace, IsOutcome}
-use Rattle.namenode_write.specs.Rows.{Held, held, weight, done, IsAt, IsDone}
+use Rattle.namenode_write.specs.Rows.{Held, held, all_of, weight, done, IsAt, IsDone}
 use Rattle.namenode_write.proofs.Outcomes.{done-outcome}
 use Rattle.namenode_write.proofs.RowDone.{call-done}
 
@@ -80,4 +80,4 @@ module _ {S : Type 0} (blocks : S → Option BlockMap) (greatest faults : S → 
           (λ plain at. subst (λ (h : Held). weight h (done plain (calls.Rename old_text new_text)) ≤ weight (held blocks greatest before) plain + 10) (sym then_is)
           (light (held blocks greatest before) (told table) (tick_of before) plain at old_text new_text (here plain at)))
           (ap (λ (r : RowSpace S). r.store) kept) items (ap (λ (r : RowSpace S). r.limit) kept)
-          (λ so. record { below = place.below; most = place.most; room = place.room }) refl
+          (record { below = place.below; most = place.most; room = place.room }) refl refl (ap (λ (r : RowSpace S). all_of r.waiting.items) kept)

@@ -107,10 +107,10 @@ one-more m ms (d ∷ ds) = let rest = one-more m ms ds in by (d.0.0 == m.0.0) re
     by true e rest = rw e (omega (arith, rest))
     by false e rest = rw e (omega (arith, rest))
 
-above-in : (n : ℕ) (ds : List Directory) (e : Directory) → AllByRecursion (λ k. n < k) (map number ds) → In ds e → n < number e
-above-in n [] e above at = absurd at
-above-in n (d ∷ ds) e above (inl same) = let here : n < number d = above.0 in let is : number d ≡ number e = ap number same in omega (arith, here, is)
-above-in n (d ∷ ds) e above (inr at) = above-in n ds e above.1 at
+pub above-in : {X : Type 0} (number : X → ℕ) (n : ℕ) (xs : List X) (e : X) → AllByRecursion (λ k. n < k) (map number xs) → In xs e → n < number e
+above-in number n [] e above at = absurd at
+above-in number n (x ∷ xs) e above (inl same) = let here : n < number x = above.0 in let is : number x ≡ number e = ap number same in omega (arith, here, is)
+above-in number n (x ∷ xs) e above (inr at) = above-in number n xs e above.1 at
 
 not-among : (id : InodeId) (ds : List Directory) → AllByRecursion (λ k. id.0 < k) (map number ds) → ones id ds ≡ 0
 not-among id [] above = refl
@@ -128,7 +128,7 @@ among id (d ∷ ds) e rise (inl here) same =
     let rest : ones id ds ≡ 0 = not-among id ds (subst (λ n. AllByRecursion (λ k. n < k) (map number ds)) is rise.0) in
     ap (λ b. cond b 1 0 + ones id ds) yes ∙ omega (arith, rest)
 among id (d ∷ ds) e rise (inr at) same =
-    let less : number d < number e = above-in (number d) ds e rise.0 at in
+    let less : number d < number e = above-in number (number d) ds e rise.0 at in
     let is : number e ≡ id.0 = ap (λ (i : InodeId). i.0) same in
     let no : (d.0.0 == id.0) ≡ false = grind (arith, nat_tests) in
     let rest = among id ds e rise.1 at same in
@@ -164,7 +164,7 @@ module _ (table : Tabled) (snaps : Snapshots) (state : State FileBlocks) (all : 
 
 -- ---- rows
 
-abbrev key : InodeId × RowState → ℕ
+abbrev pub key : InodeId × RowState → ℕ
 key e = e.0.0
 
 in-rows : (rows : Table) (id : InodeId) (row : RowState) → row_at rows id ≡ Some row → (e : InodeId × RowState) × In rows e × (id.0 ≡ key e)

@@ -25,29 +25,26 @@ use Rattle.inode_table.specs.RowHistory.{Table}
 use Rattle.inode_table.specs.Tabled.{Tabled}
 use Rattle.inode_table.specs.Whole.{StandsFor}
 use Rattle.namenode_write.specs.declared.rows.space.RowSpace.{RowSpace}
-use Rattle.namenode_write.specs.Made.{IsPlain, fault_of}
+use Rattle.namenode_write.specs.Reasons.{fault_of}
 use Rattle.namenode_write.specs.Outcome.{tick_of, is_refusal, is_storeless, is_freeing, most_added, HasPlace, IsOutcome}
 use Rattle.namenode_write.specs.RowFiles.{file_placed, placed_file, HasFile}
 use Rattle.namenode_write.specs.Rows.{Held, held, all_of, weight, done, IsAt, IsDone}
-use Rattle.namenode_write.proofs.Causes.{read-made, next-made}
 use Rattle.namenode_write.proofs.Outcomes.{IsAlike, place-told}
+use Rattle.namenode_write.proofs.ReadAnswers.{page-answered}
 use Rattle.namenode_write.proofs.StoreOutcomes.{IsAsked, same-place, place-alike, alike-stands, store-outcome, stored-outcome, outcome-from}
 
 module _ (before : Held) (tick : ℕ) (plain : State (List ℕ)) (at : IsAt before tick plain) where
-  is-plain : IsPlain before.store at.stands.state plain
-  is-plain = record { stands = at.stands.sized; bytes = at.stands.bytes }
-
   pub rows-read : (text : List ℕ) (offset len : ℕ) (found : Place × FileBlocks) (reply : Reply) (now : Held) → now ≡ before → found_file at.stands.state text ≡ Ok found → blanked reply ≡ page_at block_files offset len found
       → IfSome before.store (λ map. reply ≡ page_at (record block_files { bytes = bytes_in map }) offset len found) → IsDone before now tick (calls.Read text offset len) reply plain
   rows-read text offset len found reply now same is_found sized tells =
-      let done = read-made before.store at.stands.state plain text offset len found before.store reply is_found refl sized tells is-plain in
-      record { told = done.told; ok = done.ok; after = subst (λ (h : Held). IsAt h tick plain) (sym same) at }
+      let page = page-answered before.store at.stands.state plain at.stands.sized at.stands.bytes (calls.Read text offset len) (found_file at.stands.state text) offset len found is_found refl refl (λ files. refl) reply sized tells in
+      record { told = page.0; ok = page.1; after = subst (λ (h : Held). IsAt h tick plain) (sym same) at }
 
   pub rows-next : (cursor : ReadCursor) (len : ℕ) (found : Place × FileBlocks) (reply : Reply) (now : Held) → now ≡ before → next_file at.stands.state cursor.place ≡ Ok found → blanked reply ≡ page_at block_files cursor.offset len found
       → IfSome before.store (λ map. reply ≡ page_at (record block_files { bytes = bytes_in map }) cursor.offset len found) → IsDone before now tick (calls.ReadNext cursor len) reply plain
   rows-next cursor len found reply now same is_found sized tells =
-      let done = next-made before.store at.stands.state plain cursor len found before.store reply is_found refl sized tells is-plain in
-      record { told = done.told; ok = done.ok; after = subst (λ (h : Held). IsAt h tick plain) (sym same) at }
+      let page = page-answered before.store at.stands.state plain at.stands.sized at.stands.bytes (calls.ReadNext cursor len) (next_file at.stands.state cursor.place) cursor.offset len found is_found refl refl (λ files. refl) reply sized tells in
+      record { told = page.0; ok = page.1; after = subst (λ (h : Held). IsAt h tick plain) (sym same) at }
 
 -- a file that is there, with its place
 pub has-placed : (rows : Table) (place : Place) (has : HasFile rows place) → placed_file rows place ≡ Ok (place, has.0)
@@ -85,6 +82,7 @@ module _ {S : Type 0} (blocks : S → Option BlockMap) (greatest faults : S → 
     tells = ap is_some kept;
     count = count;
     store = λ none. absurd (cc);
+    reads = λ none. held-same;
   }
 
   light : (call : Call) (plain : State (List ℕ)) → is_modifying call ≡ false → weight (held blocks greatest after) (done plain call) ≤ weight (held blocks greatest middle) plain + most_added call
@@ -98,7 +96,7 @@ module _ {S : Type 0} (blocks : S → Option BlockMap) (greatest faults : S → 
       → ((plain : State (List ℕ)) → IsAt (held blocks greatest middle) (tick_of middle) plain → IsDone (held blocks greatest middle) (held blocks greatest after) (tick_of middle) call reply plain) → IsOutcome blocks greatest faults before after call (Ok reply)
   page-outcome call reply reads asked frees done_so =
       outcome-from blocks greatest faults before middle after call (Ok reply) alike tt
-      (stored-outcome blocks greatest faults middle after call reply done_so (λ plain at. light call plain reads) (asks call asked) frees)
+      (stored-outcome blocks greatest faults middle after call reply done_so (λ plain at. light call plain reads) (asks call asked) (ap (λ (h : Held). h.waiting) held-same) frees)
 
   -- it wasn't
   unread-outcome : (call : Call) (fault : AskFault) (error : StoreErr) → fault ≡ fault_of error → uses_store call ≡ true → is_storeless call ≡ false
@@ -107,7 +105,7 @@ module _ {S : Type 0} (blocks : S → Option BlockMap) (greatest faults : S → 
   unread-outcome call fault error is uses asked would rose =
       outcome-from blocks greatest faults before middle after call (Err fault) alike (ap is_refusal is ∙ never error)
       (store-outcome blocks greatest faults middle after call (Err fault) fault error refl is uses would
-      (λ plain at. subst (λ (h : Held). IsAt h (tick_of middle) plain) (sym held-same) at) (asks call asked) rose)
+      (λ plain at. subst (λ (h : Held). IsAt h (tick_of middle) plain) (sym held-same) at) (asks call asked) (ap (λ (h : Held). h.table) held-same) (ap (λ (h : Held). h.snaps) held-same) rose)
     where
       never : (e : StoreErr) → is_refusal (fault_of e) ≡ false
       never errors.Failed = refl

@@ -1,8 +1,9 @@
 -- What a namenode shows of the plain state of its journal.
-use Rattle.std.proofs.Common.{◌≡◌, ℕ, ◌-◌, Bool, true, List, [], ◌∷◌, length, map, slice_get, refl, sym, ap, ◌∙◌}
+use Rattle.std.proofs.Common.{◌≡◌, ℕ, ◌-◌, Bool, true, List, [], ◌∷◌, length, map, slice_get, refl, sym, ap, ◌∙◌, arith}
 use Rattle.std.proofs.lemmas.List.{length-map}
 use Rattle.hs_types.specs.Names.{Names}
 use Rattle.hs_plain.specs.declared.state.Node.{Node}
+use Rattle.hs_plain.specs.declared.state.Member.{Member}
 use Rattle.hs_plain.specs.declared.state.State.{State}
 use Rattle.hs_plain.specs.declared.state.FileBlocks.{FileBlocks}
 use Rattle.hs_types.specs.declared.shown.TreeLine.{TreeLine}
@@ -21,6 +22,14 @@ module _ (whole : State FileBlocks) (plain : State (List ℕ)) (sized : StandsFo
 
   pub members-same : length whole.members ≡ length plain.members
   members-same = sym (length-map whole.members (viewed_member (λ (file : FileBlocks). file.size))) ∙ ap (λ (s : State ℕ). length s.members) sized ∙ length-map plain.members (viewed_member (λ (bytes : List ℕ). length bytes))
+
+-- no snapshots, where there are none in the plain state
+pub alone-same : (whole : State FileBlocks) (plain : State (List ℕ)) → StandsFor whole plain → plain.members ≡ [] → whole.members ≡ []
+alone-same whole plain sized none = by whole.members (members-same whole plain sized ∙ ap length none)
+  where
+    by : (ms : List (Member FileBlocks)) → length ms ≡ 0 → ms ≡ []
+    by [] empty = refl
+    by (m ∷ ms) empty = absurd (omega (arith, empty))
 
 -- ---- the lines of the live tree
 

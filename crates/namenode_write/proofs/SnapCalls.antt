@@ -30,7 +30,7 @@ use Rattle.table_laws.proofs.WholeDirs.{whole-snap, whole-allow, whole-disallow}
 use Rattle.table_laws.proofs.WholeNaming.{whole-snap_ren}
 use Rattle.namenode_write.specs.declared.rows.space.RowSpace.{RowSpace}
 use Rattle.namenode_write.specs.Outcome.{tick_of, HasPlace, is_freeing, most_added, IsOutcome}
-use Rattle.namenode_write.specs.Rows.{Held, held, weight, done, IsAt, IsStanding, IsDone}
+use Rattle.namenode_write.specs.Rows.{Held, held, all_of, weight, done, IsAt, IsStanding, IsDone}
 use Rattle.namenode_write.specs.SnapTests.{dir_of}
 use Rattle.namenode_write.proofs.Outcomes.{IsAlike, done-outcome}
 use Rattle.namenode_write.proofs.RowDone.{call-done}
@@ -156,7 +156,7 @@ module _ {S : Type 0} (blocks : S → Option BlockMap) (greatest faults : S → 
       (λ plain at. subst (λ (p : State (List ℕ)). weight (held blocks greatest (record place { snaps = later })) p ≤ weight (held blocks greatest before) plain + most_added call) (stepped plain)
       (let same = ap (λ (h : Held). totals.weight h.table.rows) (later-held later) in let more = few plain in omega (arith, same, more, most)))
       (ap (λ (r : RowSpace S). r.store) kept) items (ap (λ (r : RowSpace S). r.limit) kept)
-      (λ _. record { below = has.below; most = has.most; room = has.room }) frees
+      (record { below = has.below; most = has.most; room = has.room }) modifies frees (ap (λ (r : RowSpace S). all_of r.waiting.items) kept)
     where
       stepped : (plain : State (List ℕ)) → ticked (change plain_files plain call) ≡ done plain call
       stepped plain = ap (λ b. cond b (ticked (change plain_files plain call)) plain) (sym modifies)

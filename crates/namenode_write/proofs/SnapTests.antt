@@ -39,8 +39,9 @@ use Rattle.inode_table.specs.Reads.{id_of}
 use Rattle.inode_table.specs.Tabled.{Tabled}
 use Rattle.inode_table.specs.Whole.{StandsFor}
 use Rattle.path_resolver.specs.Live.{id_asked}
-use Rattle.path_resolver.proofs.ByRows.{err_ok, Agrees, find-named}
+use Rattle.path_resolver.proofs.ByRows.{err_ok}
 use Rattle.path_resolver.proofs.Holds.{has-told}
+use Rattle.path_resolver.proofs.Named.{at-name, named-none}
 use Rattle.namenode_write.specs.SnapTests.{dir_of, takes_name, takes_snapshot}
 
 -- what is lent is there where the thing is
@@ -49,11 +50,6 @@ some-copied None = refl
 some-copied (Some x) = refl
 
 -- ---- snapshots by name
-
--- a member's id, where one was found
-abbrev member_id : Asked (Member FileBlocks) → Asked SnapId
-member_id (Ok m) = Ok m.snapshot
-member_id (Err why) = Err NoSnapshot
 
 abbrev is_found : Asked (Member FileBlocks) → Bool
 is_found (Ok m) = true
@@ -64,14 +60,6 @@ any-member [] dir name = refl
 any-member (m ∷ ms) dir name = by (is_named dir name m) (any-member ms dir name)
   where
     by : (b : Bool) → list_any (is_named dir name) ms ≡ is_found (member_named ms dir name) → (b || list_any (is_named dir name) ms) ≡ is_found (cond b (Ok m) (member_named ms dir name))
-    by true rest = refl
-    by false rest = rest
-
-id-member : (ms : List (Member FileBlocks)) (dir : InodeId) (name : List ℕ) → snapshot_named ms dir name ≡ member_id (member_named ms dir name)
-id-member [] dir name = refl
-id-member (m ∷ ms) dir name = by (is_named dir name m) (id-member ms dir name)
-  where
-    by : (b : Bool) → snapshot_named ms dir name ≡ member_id (member_named ms dir name) → cond b (Ok m.snapshot) (snapshot_named ms dir name) ≡ member_id (cond b (Ok m) (member_named ms dir name))
     by true rest = refl
     by false rest = rest
 
@@ -92,16 +80,6 @@ count-told (m ∷ ms) dir = by (count-told ms dir) (sum_by-cons (λ (x : Member 
         let none = ap (λ b. cond {A = ℕ} b 1 0) apart in
         let here : length (of_dir dir (map told (m ∷ ms))) ≡ length (of_dir dir (map told ms)) = rw other refl in
         omega (arith, rest, more, none, here)
-
--- a text that isn't a name is no snapshot's
-not-a-name : (ms : List (Member FileBlocks)) (dir : InodeId) (name : List ℕ) → list_all (λ m. is_name m.name) ms ≡ true → is_name name ≡ false → snapshot_named ms dir name ≡ Err NoSnapshot
-not-a-name [] dir name all none = refl
-not-a-name (m ∷ ms) dir name all none =
-    elim (is_named dir name m) as (λ b. is_named dir name m ≡ b → cond b (Ok m.snapshot) (snapshot_named ms dir name) ≡ Err NoSnapshot) [
-      | true ↦ λ t. let same : m.name ≡ name = (bytes_eq-Decides m.name name).0 (second (same_inode m.directory dir) _ t) in
-          absurd (true_false (ap is_name (sym same) ∙ first (is_name m.name) _ all) none)
-      | false ↦ λ _. not-a-name ms dir name (second (is_name m.name) _ all) none
-    ] refl
 
 -- what is found by its name is found by its id
 found-id : (ms : List (Member FileBlocks)) (dir : InodeId) (name : List ℕ) (id : SnapId) → snapshot_named ms dir name ≡ Ok id → is_some (find (λ (m : members.Member). has_id id m.1) (map told ms)) ≡ true
@@ -131,23 +109,12 @@ module _ (table : Tabled) (snaps : Snapshots) (state : State FileBlocks) (all : 
       by None = refl
       by (Some items) = refl
 
-  at-name : (dir : InodeId) (name : List ℕ) → Agrees state.members dir (member_named state.members dir name) (find (has_name name) (snaps_in snaps dir))
-  at-name dir name = subst (λ (items : List SnapItem). Agrees state.members dir (member_named state.members dir name) (find (has_name name) items)) (sym (all.told.tables dir)) (find-named state.members dir name)
-
   pub taken-told : (dir : InodeId) (name : List ℕ) → is_some (find (has_name name) (snaps_in snaps dir)) ≡ has_snapshot_named state dir name
   taken-told dir name = by (find (has_name name) (snaps_in snaps dir)) refl
     where
       by : (o : Option SnapItem) → find (has_name name) (snaps_in snaps dir) ≡ o → is_some (find (has_name name) (snaps_in snaps dir)) ≡ has_snapshot_named state dir name
-      by None e = ap is_some e ∙ sym (any-member state.members dir name ∙ ap is_found ((at-name dir name).none e))
-      by (Some item) e = let m = (at-name dir name).some item e in ap is_some e ∙ sym (any-member state.members dir name ∙ ap is_found m.1)
-
-  pub named-none : (dir : InodeId) (name : List ℕ) → find (has_name name) (snaps_in snaps dir) ≡ None → snapshot_named state.members dir name ≡ Err NoSnapshot
-  named-none dir name e = id-member state.members dir name ∙ ap member_id ((at-name dir name).none e)
-
-  pub named-some : (dir : InodeId) (name : List ℕ) (item : SnapItem) → find (has_name name) (snaps_in snaps dir) ≡ Some item → snapshot_named state.members dir name ≡ Ok item.id
-  named-some dir name item e =
-      let m = (at-name dir name).some item e in
-      id-member state.members dir name ∙ ap member_id m.1 ∙ ap (λ (i : SnapId). Ok i) m.4
+      by None e = ap is_some e ∙ sym (any-member state.members dir name ∙ ap is_found ((at-name table snaps state all dir name).none e))
+      by (Some item) e = let m = (at-name table snaps state all dir name).some item e in ap is_some e ∙ sym (any-member state.members dir name ∙ ap is_found m.1)
 
   pub full-some : (dir : InodeId) (n : ℕ) → option_map (λ (items : List SnapItem). length items) (snaps_of snaps dir) ≡ Some n → snapshots_of state.members dir ≡ n
   full-some dir n e = count-told state.members dir ∙ ap length (sym (all.told.tables dir)) ∙ by (snaps_of snaps dir) e
@@ -162,9 +129,6 @@ module _ (table : Tabled) (snaps : Snapshots) (state : State FileBlocks) (all : 
       by : (o : Option (List SnapItem)) → option_map (λ (items : List SnapItem). length items) o ≡ None → length (unwrap_or o []) ≡ 0
       by None h = refl
       by (Some items) h = absurd (none_some (sym h))
-
-  pub nameless : (dir : InodeId) (name : List ℕ) → is_name name ≡ false → snapshot_named state.members dir name ≡ Err NoSnapshot
-  nameless dir name none = not-a-name state.members dir name all.valid.member_names none
 
 -- ---- tests behind the directory
 

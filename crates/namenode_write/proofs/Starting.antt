@@ -1,5 +1,5 @@
 -- A new namenode: the first table without snapshots, over a store without blocks.
-use Rattle.std.proofs.Common.{◌≡◌, ℕ, Option, None, Some, List, [], length, IfSome, refl, sym, ap, subst, arith}
+use Rattle.std.proofs.Common.{◌≡◌, ℕ, ◌≤◌, Option, None, Some, List, [], length, IfSome, refl, sym, ap, subst, arith}
 use Rattle.hs_types.specs.Blocks.{BlockMap, find}
 use Rattle.hs_types.specs.declared.journal.Entry.{Entry}
 use Rattle.hs_types.specs.declared.name.Spot.{Spot}
@@ -27,12 +27,13 @@ first-at : (spot : Spot) (store : Option BlockMap) (greatest : ℕ) → HasNone 
 first-at spot store greatest none = record { stands = plain-start spot store greatest none; tick = refl; inodes = omega arith; snapshots = omega arith; light = omega arith }
 
 pub started : {S : Type 0} (blocks : S → Option BlockMap) (greatest faults : S → ℕ) (space : RowSpace S) (spot : Spot) (journal : List Entry) → told space.table ≡ first_table spot → space.snaps ≡ snapshots.start
-    → IfSome (blocks space.store) (λ map. map ≡ []) → space.waiting.items ≡ [] → journal ≡ [] → IsConsistent blocks greatest faults space journal
-started {S} blocks greatest faults space spot journal table snaps empty waiting none = record {
+    → IfSome (blocks space.store) (λ map. map ≡ []) → space.waiting.items ≡ [] → journal ≡ [] → space.limit ≤ 1000000 → IsConsistent blocks greatest faults space journal
+started {S} blocks greatest faults space spot journal table snaps empty waiting none most = record {
   at = subst (λ (entries : List Entry). IsAt (held blocks greatest space) (length entries) (plain_after entries)) (sym none)
       (subst (λ (h : Held). IsAt h 0 (start {B = List ℕ})) (sym same) (first-at spot (blocks space.store) (greatest space.store) (none-there (blocks space.store) empty)));
   proper = ap is_proper none;
   within = let zero = ap length none in omega (arith, zero);
+  most = most;
   faults_counted = let zero = ap fault_count none in omega (arith, zero);
 }
   where

@@ -1,7 +1,7 @@
 -- From the outcome of a call over rows to the step of a namenode.
-use Rattle.std.proofs.Common.{◌≡◌, ℕ, ◌+◌, ◌≤◌, Bool, true, false, cond, ◌&&◌, Option, Some, None, take, List, [], ◌∷◌, ◌++◌, length, Ok, Err, Result, is_some, refl, ap, sym, subst, ◌∙◌, arith, length-append, append-nil}
+use Rattle.std.proofs.Common.{◌≡◌, ℕ, ◌+◌, ◌<◌, ◌≤◌, Bool, true, false, cond, ◌&&◌, ◌||◌, Option, Some, None, take, List, [], ◌∷◌, ◌++◌, length, Ok, Err, Result, is_some, refl, ap, sym, subst, ◌∙◌, arith, length-append, append-nil}
 use Rattle.std.proofs.lemmas.Bool.Decides.{nat_tests}
-use Rattle.std.specs.Prelude.{IfOk, IfErr, OnOk, IsErrOf, not, nat_lt}
+use Rattle.std.specs.Prelude.{IfOk, IfErr, OnOk, OnErr, IsErrOf, not, nat_lt}
 use Rattle.std.proofs.Math.Seq.{take-length}
 use Rattle.std.specs.Option.{option_to_list}
 use Rattle.hs_types.specs.Blocks.{BlockMap}
@@ -25,14 +25,15 @@ use Rattle.hs_plain.specs.Change.{change, changed_if, is_accepted, after as afte
 use Rattle.hs_plain.specs.Replay.{may_follow, plain_after, is_proper}
 use Rattle.hs_plain.specs.State.{start}
 use Rattle.hs_plain.specs.Legal.{IsFullAt, Said, entry_of, entry_left, leaves_entry}
+use Rattle.inode_table.specs.Kept.{told as told_table}
 use Rattle.namenode_write.specs.declared.rows.space.RowSpace.{RowSpace}
 use Rattle.namenode_write.specs.Faulted.{fault_count}
 use Rattle.namenode_write.specs.Outcome.{is_full, HasPlace, IsOutcome, is_refusal, most_added, tick_of}
-use Rattle.namenode_write.specs.Rows.{Held, held, all_of, weight, done, IsAt, IsDone}
-use Rattle.namenode_write.specs.Step.{IsConsistent, IsStep, value_of, is_refused}
-use Rattle.namenode_write.proofs.CountedLaws.{counted_call}
+use Rattle.namenode_write.specs.Rows.{Held, held, all_of, value_of, weight, done, IsAt, IsDone}
+use Rattle.namenode_write.specs.Step.{IsConsistent, IsStep, is_refused}
+use Rattle.namenode_write.proofs.FaultCountLaws.{counted_call}
 use Rattle.namenode_write.proofs.Ending.{IsEnded, ended}
-use Rattle.namenode_write.proofs.Journals.{and_false, ok_no_fault, fault_number, is_fault, leaves_ok, refused_leaves, replay_from-push, proper_from-push, faults_told, legal_entered, legal_back, rose}
+use Rattle.namenode_write.proofs.Journals.{and_false, or_false, ok_no_fault, fault_number, is_fault, leaves_ok, refused_leaves, replay_from-push, proper_from-push, faults_told, legal_entered, legal_back, rose}
 
 -- a refusal leaves no entry
 refused-leaves : (call : Call) (reply : Reply) → is_refused reply ≡ true → leaves_entry call reply ≡ false
@@ -73,6 +74,16 @@ ok-refused (replies.Report lines next) ok = refl
 ok-refused (replies.Refused why) ok = absurd (cc)
 ok-refused replies.NoMemory ok = absurd (cc)
 
+-- a call that isn't done leaves an entry only where the store failed
+fault-left : (call : Call) (reply : Reply) → leaves_entry call reply ≡ true → is_ok_reply reply ≡ false → is_store_fault reply ≡ true
+fault-left call reply leaves unmade =
+    sym (ap (λ b. is_store_fault reply || (is_modifying call && b)) unmade ∙ ap (λ b. is_store_fault reply || b) (and_false (is_modifying call)) ∙ or_false (is_store_fault reply)) ∙ leaves
+
+-- where the same is held, only entries and store may differ
+read-value : {S : Type 0} (blocks : S → Option BlockMap) (greatest : S → ℕ) (before after : RowSpace S) → held blocks greatest after ≡ held blocks greatest before → after.limit ≡ before.limit
+    → value_of after after.journal.items ≡ record (value_of before before.journal.items) { entries = after.journal.items; store = after.store }
+read-value blocks greatest before after same limit = λ i. record { entries = after.journal.items; store = after.store; limit = limit i; table = (same i).table; snaps = (same i).snaps; waiting = (same i).waiting }
+
 -- the number of entries is at the limit
 at_limit : (tick limit : ℕ) → not (nat_lt tick limit) ≡ true → tick ≤ limit → tick ≡ limit
 at_limit tick limit full within = grind (arith, nat_tests)
@@ -87,15 +98,13 @@ module _ {S : Type 0} (blocks : S → Option BlockMap) (greatest faults : S → 
 
   -- where an entry is due there is a place for it
   pub has-place : leaves_entry call reply ≡ true → HasPlace after
-  has-place leaves = by result tells out.made out.place out.fault_place
+  has-place leaves = by result tells out.place out.fault_place
     where
-      by : (r : Result Reply AskFault) → reply ≡ told_reply r
-          → IfOk r (λ given. (p : State (List ℕ)) → IsAt (held blocks greatest before) (tick_of before) p → IsDone (held blocks greatest before) (held blocks greatest after) (tick_of before) call given p)
-          → OnOk r (is_modifying call ≡ true → HasPlace after) → (IsErrOf r (Refused refusals.StoreFault) → HasPlace after) → HasPlace after
-      by (Ok given) same made place fault = place (sym (leaves_ok call given (made plain was.at).ok) ∙ ap (leaves_entry call) (sym same) ∙ leaves)
-      by (Err (Refused why)) same made place fault =
+      by : (r : Result Reply AskFault) → reply ≡ told_reply r → OnOk r (HasPlace after) → (IsErrOf r (Refused refusals.StoreFault) → HasPlace after) → HasPlace after
+      by (Ok given) same place fault = place
+      by (Err (Refused why)) same place fault =
           fault (ap (λ (w : Refusal). Err (Refused w)) (is_fault why (fault_number why ∙ sym (refused_leaves call why) ∙ ap (leaves_entry call) (sym same) ∙ leaves)))
-      by (Err NoMemory) same made place fault = absurd (cc (and_false (is_modifying call), ap (leaves_entry call) same, leaves))
+      by (Err NoMemory) same place fault = absurd (cc (and_false (is_modifying call), ap (leaves_entry call) same, leaves))
 
   ok_told : IfOk result (λ given. is_ok_reply given ≡ true)
   ok_told = by result out.made
@@ -115,6 +124,21 @@ module _ {S : Type 0} (blocks : S → Option BlockMap) (greatest faults : S → 
       by (Ok given) p same = p
       by (Err (Refused why)) p same = absurd (cc)
       by (Err NoMemory) p same = absurd (cc)
+
+  -- what is said where it wasn't done
+  if_undone : (P : Type 0) → OnErr result P → is_ok_reply reply ≡ false → P
+  if_undone P is undone = by result ok_told is tells
+    where
+      by : (r : Result Reply AskFault) → IfOk r (λ given. is_ok_reply given ≡ true) → OnErr r P → reply ≡ told_reply r → P
+      by (Ok given) ok p same = absurd (cc (ok, ap is_ok_reply same, undone))
+      by (Err fault) ok p same = p
+
+  -- the journal was below its limit
+  below-limit : is_ok_reply reply ≡ true → tick_of before < before.limit
+  below-limit ok =
+      let has = if_done (HasPlace after) out.place ok in
+      let entries = ap length out.journal in
+      omega (arith, has.below, entries, out.limit)
 
   -- what is said where it was refused
   if_refused : (P : Type 0) → IfErr result (λ fault. is_refusal fault ≡ true → P) → is_refused reply ≡ true → P
@@ -163,7 +187,7 @@ module _ {S : Type 0} (blocks : S → Option BlockMap) (greatest faults : S → 
     within = let has = has-place leaves in omega (arith, has.below, one_more, same_tick, limit_same)
 
     most : final.limit ≤ 1000000
-    most = let has = has-place leaves in omega (arith, has.most, limit_same)
+    most = omega (arith, was.most, limit_same, out.limit)
 
     pub entered-consistent : IsConsistent blocks greatest faults final final.journal.items
     entered-consistent = record {
@@ -173,6 +197,7 @@ module _ {S : Type 0} (blocks : S → Option BlockMap) (greatest faults : S → 
           (subst (λ (p : State (List ℕ)). IsAt (held blocks greatest after) (tick_of before + 1) p) (sym plain_longer) (end.entered leaves)));
       proper = ap is_proper longer ∙ proper_from-push start before.journal.items entry ∙ ap (λ b. b && may_follow plain entry) was.proper ∙ end.follows leaves;
       within = within;
+      most = most;
       faults_counted = subst (λ (s : S). fault_count final.journal.items ≤ faults s) (sym store_same)
           (faults_told (is_store_fault reply) (faults before.store) (faults after.store) before.journal.items final.journal.items caller seq call reply refl longer was.faults_counted out.count store_rose (omega (arith, within, most)));
     }
@@ -197,7 +222,7 @@ module _ {S : Type 0} (blocks : S → Option BlockMap) (greatest faults : S → 
     count : faults before.store ≤ faults final.store
     count = subst (λ (s : S). faults before.store ≤ faults s) (sym store_same) out.count
 
-    pub entered-step : IsStep blocks faults (value_of before before.journal.items) (value_of final final.journal.items) caller seq call told
+    pub entered-step : IsStep blocks greatest faults (value_of before before.journal.items) (value_of final final.journal.items) caller seq call told
     entered-step = record {
       legal = legal_entered (is_some (blocks final.store)) final.limit before.journal.items final.journal.items caller seq call told
           (longer ∙ ap (λ (r : Reply). before.journal.items ++ entry_of caller seq call r ∷ []) (sym is)) (place ∙ same_tick) kept (ap (leaves_entry call) is ∙ leaves)
@@ -206,13 +231,21 @@ module _ {S : Type 0} (blocks : S → Option BlockMap) (greatest faults : S → 
       appended = appended;
       limit = limit_same ∙ out.limit;
       within = within;
+      below = λ ok. below-limit (ap is_ok_reply (sym is) ∙ ok);
       refused = λ so. absurd (cc (refused-leaves call told.reply so, ap (leaves_entry call) is, leaves));
+      undone_table = λ unmade. ap (λ (h : Held). h.table) held_same ∙ if_undone (told_table after.table ≡ told_table before.table) out.undone_table (ap is_ok_reply (sym is) ∙ unmade);
+      undone_snaps = λ unmade. ap (λ (h : Held). h.snaps) held_same ∙ if_undone (after.snaps ≡ before.snaps) out.undone_snaps (ap is_ok_reply (sym is) ∙ unmade);
+      undone = λ none unmade. absurd (cc (none, (end.faulted (fault-left call reply leaves (ap is_ok_reply (sym is) ∙ unmade))).0));
+      reads = λ none. read-value blocks greatest before final (held_same ∙ out.reads none) (limit_same ∙ out.limit);
+      read_blocks = λ none. ap (λ (h : Held). h.store) (held_same ∙ out.reads none);
+      read_greatest = λ none. ap (λ (h : Held). h.greatest) (held_same ∙ out.reads none);
       cause = cause;
       faulted = λ fault. end.faulted (ap is_store_fault (sym is) ∙ fault);
       tells = tells_same;
       count = count;
       counted = counted_call faults (value_of before before.journal.items) (value_of final final.journal.items) caller said appended cause count;
       storeless = λ so. store_same ∙ out.store so;
+      waits = λ none ok. ap (λ (h : Held). h.waiting) held_same ∙ if_done (all_of after.waiting.items ≡ all_of before.waiting.items) (out.waits none) (ap is_ok_reply (sym is) ∙ ok);
       freed = λ frees ok no. ap (λ (r : RowSpace S). all_of r.waiting.items) same
           ∙ if_done ((Rose (faults before.store) (faults after.store) → ⊥) → all_of after.waiting.items ≡ []) (out.freed frees) (ap is_ok_reply (sym is) ∙ ok)
           (λ rises. no (subst (λ (s : S). Rose (faults before.store) (faults s)) (sym store_same) rises));
@@ -231,6 +264,7 @@ module _ {S : Type 0} (blocks : S → Option BlockMap) (greatest faults : S → 
       at = subst (λ (entries : List Entry). IsAt (held blocks greatest after) (length entries) (plain_after entries)) (sym out.journal) (end.unchanged leaves);
       proper = ap is_proper out.journal ∙ was.proper;
       within = omega (arith, was.within, ap length out.journal, out.limit);
+      most = omega (arith, was.most, out.limit);
       faults_counted = omega (arith, was.faults_counted, out.count, ap fault_count out.journal);
     }
 
@@ -263,7 +297,7 @@ module _ {S : Type 0} (blocks : S → Option BlockMap) (greatest faults : S → 
           at_limit = place ∙ ap length out.journal ∙ at_limit (tick_of before) before.limit why.0 was.within ∙ sym out.limit;
         }
 
-    pub back-step : IsStep blocks faults (value_of before before.journal.items) (value_of after after.journal.items) caller seq call told
+    pub back-step : IsStep blocks greatest faults (value_of before before.journal.items) (value_of after after.journal.items) caller seq call told
     back-step = record {
       legal = legal_back (is_some (blocks after.store)) after.limit after.journal.items caller seq call told place back (ap (leaves_entry call) is ∙ leaves) full_at
           (λ own. replied-alike (is_some (blocks after.store)) told is out.tells own ∙ ap (λ (p : State (List ℕ)). claimed (is_some (blocks after.store)) (answer p call)) (sym plain_same));
@@ -271,13 +305,21 @@ module _ {S : Type 0} (blocks : S → Option BlockMap) (greatest faults : S → 
       appended = unlonger;
       limit = out.limit;
       within = omega (arith, was.within, ap length out.journal, out.limit);
+      below = λ ok. below-limit (ap is_ok_reply (sym is) ∙ ok);
       refused = λ so. ap (λ (r : RowSpace S). value_of r r.journal.items) (if_refused (after ≡ before) out.refused (ap is_refused (sym is) ∙ so));
+      undone_table = λ unmade. if_undone (told_table after.table ≡ told_table before.table) out.undone_table (ap is_ok_reply (sym is) ∙ unmade);
+      undone_snaps = λ unmade. if_undone (after.snaps ≡ before.snaps) out.undone_snaps (ap is_ok_reply (sym is) ∙ unmade);
+      undone = λ none unmade. if_undone (value_of after after.journal.items ≡ value_of before before.journal.items) (out.undone none) (ap is_ok_reply (sym is) ∙ unmade);
+      reads = λ none. read-value blocks greatest before after (out.reads none) out.limit;
+      read_blocks = λ none. ap (λ (h : Held). h.store) (out.reads none);
+      read_greatest = λ none. ap (λ (h : Held). h.greatest) (out.reads none);
       cause = back_cause;
       faulted = λ fault. end.faulted (ap is_store_fault (sym is) ∙ fault);
       tells = out.tells;
       count = out.count;
       counted = counted_call faults (value_of before before.journal.items) (value_of after after.journal.items) caller back_said unlonger back_cause out.count;
       storeless = out.store;
+      waits = λ none ok. if_done (all_of after.waiting.items ≡ all_of before.waiting.items) (out.waits none) (ap is_ok_reply (sym is) ∙ ok);
       freed = λ frees ok. if_done ((Rose (faults before.store) (faults after.store) → ⊥) → all_of after.waiting.items ≡ []) (out.freed frees) (ap is_ok_reply (sym is) ∙ ok);
       heavier = λ ok.
           let done_ok = ap is_ok_reply (sym is) ∙ ok in

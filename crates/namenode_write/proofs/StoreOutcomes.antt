@@ -11,7 +11,7 @@ use Rattle.hs_plain.specs.declared.state.FileBlocks.{FileBlocks}
 use Rattle.hs_plain.specs.declared.resolve.AskFault.{AskFault}
 use Rattle.hs_plain.specs.declared.resolve.AskFault.TheVariants.{Refused}
 use Rattle.hs_plain.specs.Files.{block_files}
-use Rattle.hs_plain.specs.Answer.{answer, answer_by, is_ok_reply, uses_store}
+use Rattle.hs_plain.specs.Answer.{answer, answer_by, is_modifying, is_ok_reply, uses_store}
 use Rattle.block_store.specs.Changes.{Changes}
 use Rattle.block_store.specs.declared.store.StoreErr.{StoreErr}
 use Rattle.block_store.specs.declared.store.StoreErr.TheVariants as errors
@@ -20,12 +20,13 @@ use Rattle.inode_table.specs.Kept.{told}
 use Rattle.inode_table.specs.Tabled.{Tabled}
 use Rattle.inode_table.specs.Whole.{StandsFor}
 use Rattle.namenode_write.specs.declared.rows.space.RowSpace.{RowSpace}
-use Rattle.namenode_write.specs.Made.{fault_of}
+use Rattle.namenode_write.specs.NamenodeValue.{NamenodeValue}
+use Rattle.namenode_write.specs.Reasons.{fault_of}
 use Rattle.namenode_write.specs.Outcome.{tick_of, is_full, HasPlace, IsReason, is_refusal, is_storeless, is_freeing, most_added, IsOutcome}
-use Rattle.namenode_write.specs.Rows.{Held, held, all_of, weight, done, IsAt, IsStanding, IsDone}
+use Rattle.namenode_write.specs.Rows.{Held, held, all_of, value_of, weight, done, IsAt, IsStanding, IsDone}
 use Rattle.namenode_write.proofs.Alike.{blanked_alike}
-use Rattle.namenode_write.proofs.Causes.{same_err, ok-blanked}
-use Rattle.namenode_write.proofs.Outcomes.{IsAlike}
+use Rattle.namenode_write.proofs.Journals.{ok-blanked}
+use Rattle.namenode_write.proofs.Outcomes.{IsAlike, alike-value, same_err}
 
 -- a store that tells its blocks goes on telling them
 pub still-tells : (P : BlockMap → BlockMap → Type 0) (a b : Option BlockMap) → Changes a b P → is_some b ≡ is_some a
@@ -58,20 +59,24 @@ module _ {S : Type 0} (blocks : S → Option BlockMap) (greatest faults : S → 
     pub tells : is_some (blocks after.store) ≡ is_some (blocks before.store)
     pub count : faults before.store ≤ faults after.store
     pub store : is_storeless call ≡ true → after.store ≡ before.store
+    pub reads : is_modifying call ≡ false → held blocks greatest after ≡ held blocks greatest before
 
   -- the store failed, or wanted memory
   pub store-outcome : (result : Result Reply AskFault) (fault : AskFault) (error : StoreErr) → result ≡ Err fault → fault ≡ fault_of error → uses_store call ≡ true
       → ((state : State FileBlocks) → StandsFor (told before.table) before.snaps state → is_ok_reply (answer_by block_files state call) ≡ true)
       → ((plain : State (List ℕ)) → IsAt (held blocks greatest before) (tick_of before) plain → IsAt (held blocks greatest after) (tick_of before) plain)
-      → IsAsked → (error ≡ errors.Failed → Rose (faults before.store) (faults after.store)) → IsOutcome blocks greatest faults before after call result
-  store-outcome (Ok reply) fault error is same uses would kept asks rose = absurd (cc)
-  store-outcome (Err other) fault error is same uses would kept asks rose = record {
+      → IsAsked → told after.table ≡ told before.table → after.snaps ≡ before.snaps → (error ≡ errors.Failed → Rose (faults before.store) (faults after.store)) → IsOutcome blocks greatest faults before after call result
+  store-outcome (Ok reply) fault error is same uses would kept asks table snaps rose = absurd (cc)
+  store-outcome (Err other) fault error is same uses would kept asks table snaps rose = record {
     made = tt;
     heavier = tt;
     cause = λ plain at. subst (IsReason (is_full before) plain call) (sym so) (reason error plain (sym (ok-blanked (answer plain call)) ∙ ap is_ok_reply (blanked_alike at.stands.state plain at.stands.sized call) ∙ would at.stands.state at.stands.stands));
     kept = kept;
     refused = λ refuses. absurd (no_refusal error (ap is_refusal (sym so) ∙ refuses));
-    quiet = λ none. absurd (let u = uses in cc);
+    undone_table = table;
+    undone_snaps = snaps;
+    undone = λ none. absurd (let u = uses in cc);
+    reads = asks.reads;
     journal = asks.journal;
     limit = asks.limit;
     place = tt;
@@ -80,6 +85,7 @@ module _ {S : Type 0} (blocks : S → Option BlockMap) (greatest faults : S → 
     count = asks.count;
     rose = λ fails. rose (is_failed error (sym so ∙ same_err {T = Reply} fails));
     store = asks.store;
+    waits = λ none. tt;
     freed = λ frees. tt;
   }
     where
@@ -93,22 +99,26 @@ module _ {S : Type 0} (blocks : S → Option BlockMap) (greatest faults : S → 
   -- it answered
   pub stored-outcome : (reply : Reply) → ((plain : State (List ℕ)) → IsAt (held blocks greatest before) (tick_of before) plain → IsDone (held blocks greatest before) (held blocks greatest after) (tick_of before) call reply plain)
       → ((plain : State (List ℕ)) → IsAt (held blocks greatest before) (tick_of before) plain → weight (held blocks greatest after) (done plain call) ≤ weight (held blocks greatest before) plain + most_added call)
-      → IsAsked → is_freeing call ≡ false → IsOutcome blocks greatest faults before after call (Ok reply)
-  stored-outcome reply is heavier asks frees = record {
+      → IsAsked → all_of after.waiting.items ≡ all_of before.waiting.items → is_freeing call ≡ false → IsOutcome blocks greatest faults before after call (Ok reply)
+  stored-outcome reply is heavier asks waits frees = record {
     made = is;
     heavier = heavier;
     cause = tt;
     kept = tt;
     refused = tt;
-    quiet = λ none. tt;
+    undone_table = tt;
+    undone_snaps = tt;
+    undone = λ none. tt;
+    reads = asks.reads;
     journal = asks.journal;
     limit = asks.limit;
-    place = λ modifies. asks.place;
+    place = asks.place;
     fault_place = λ fails. absurd (ok_err fails);
     tells = asks.tells;
     count = asks.count;
     rose = λ fails. absurd (ok_err fails);
     store = asks.store;
+    waits = λ none. waits;
     freed = λ so. absurd (let f = frees in cc);
   }
 
@@ -162,7 +172,10 @@ module _ {S : Type 0} (blocks : S → Option BlockMap) (greatest faults : S → 
         (subst (λ b. IfErr result (λ fault. (plain : State (List ℕ)) → IsAt (held blocks greatest middle) (tick_of middle) plain → IsReason b plain call fault)) same_full o.cause);
     kept = of-before (λ h n. OnErr result ((plain : State (List ℕ)) → IsAt h n plain → IsAt (held blocks greatest after) n plain)) o.kept;
     refused = no_refused result never;
-    quiet = λ none. of-before (λ h n. OnErr result (held blocks greatest after ≡ h)) (o.quiet none);
+    undone_table = of-before (λ h n. OnErr result (told after.table ≡ h.table)) o.undone_table;
+    undone_snaps = of-before (λ h n. OnErr result (after.snaps ≡ h.snaps)) o.undone_snaps;
+    undone = λ none. subst (λ (v : NamenodeValue S). OnErr result (value_of after after.journal.items ≡ v)) (alike-value blocks greatest before middle same) (o.undone none);
+    reads = λ none. o.reads none ∙ same.held;
     journal = o.journal ∙ same.journal;
     limit = o.limit ∙ same.limit;
     place = o.place;
@@ -171,6 +184,7 @@ module _ {S : Type 0} (blocks : S → Option BlockMap) (greatest faults : S → 
     count = subst (λ (s : S). faults s ≤ faults after.store) same.store o.count;
     rose = λ fails. subst (λ (s : S). Rose (faults s) (faults after.store)) same.store (o.rose fails);
     store = λ none. o.store none ∙ same.store;
+    waits = λ none. of-before (λ h n. OnOk result (all_of after.waiting.items ≡ h.waiting)) (o.waits none);
     freed = λ frees. subst (λ (s : S). OnOk result ((Rose (faults s) (faults after.store) → ⊥) → all_of after.waiting.items ≡ [])) same.store (o.freed frees);
   }
     where

@@ -1,5 +1,5 @@
 -- What an append over rows asks for, and what is left when the store was asked. For proofs: contracts of calls speak of the plain state.
-use Rattle.std.specs.Prelude.{◌≡◌, ℕ, ◌+◌, ◌≤◌, List, [], length, Option, Result, Ok, IfOk, IfErr, OnOk, OnErr, IsErrOf}
+use Rattle.std.specs.Prelude.{◌≡◌, ℕ, ◌+◌, ◌≤◌, List, [], length, false, Option, Some, None, Result, Ok, IfOk, IfErr, OnOk, OnErr, IsErrOf}
 use Rattle.hs_types.specs.Names.{Names}
 use Rattle.hs_types.specs.Blocks.{BlockMap, IsFile}
 use Rattle.hs_types.specs.Faults.{Rose}
@@ -17,16 +17,27 @@ use Rattle.block_store.specs.declared.store.StoreErr.{StoreErr}
 use Rattle.block_contents.specs.Contents.{Appended, KeepsFile, MakesOnly, Adds}
 use Rattle.inode_table.specs.declared.change.Change.TheVariants as changes
 use Rattle.inode_table.specs.Kept.{told}
-use Rattle.inode_table.specs.Tabled.{changed}
+use Rattle.inode_table.specs.Lent.{current_blocks}
+use Rattle.inode_table.specs.RowHistory.{RowHistory, row_at, rows_at}
+use Rattle.inode_table.specs.Tabled.{Tabled, changed, starts_in}
 use Rattle.namenode_write.specs.declared.rows.seats.Seat.{Seat}
 use Rattle.namenode_write.specs.declared.rows.space.RowSpace.{RowSpace}
-use Rattle.namenode_write.specs.Made.{fault_of}
+use Rattle.namenode_write.specs.Reasons.{fault_of}
 use Rattle.namenode_write.specs.Outcome.{tick_of}
 use Rattle.namenode_write.specs.Rows.{all_of}
 
 -- the path of the file that was asked for
 abbrev pub append_path : Asked (Names × Node FileBlocks × FileBlocks) → Asked Names
 append_path asked = asked >>= λ at. Ok at.0
+
+-- a file of this size, with the blocks that its row names now
+abbrev pub file_now : ℕ → Option RowHistory → FileBlocks
+file_now size rows = record { size = size; blocks = current_blocks rows }
+
+-- where a record is started that keeps the list of blocks there is a copy of it, and else none
+abbrev pub IsCopyFor : Tabled → Seat → Option (List BlockId) → Type 0
+IsCopyFor table seat None = starts_in seat.need.0 (row_at table.rows seat.id) ≡ false
+IsCopyFor table seat (Some copy) = copy ≡ current_blocks (rows_at table.rows seat.id)
 
 -- the file has these bytes more, and the blocks that were made for them
 pub record HasGrown {S : Type 0} (blocks : S → Option BlockMap) (greatest : S → ℕ) (before after : RowSpace S) (seat : Seat) (file : FileBlocks) (bytes : List ℕ) : Type 0 where

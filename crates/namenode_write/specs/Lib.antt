@@ -1,11 +1,11 @@
 pub mod Appending
 pub mod Called
-pub mod Counted
+pub mod FaultCounts
 pub mod Faulted
-pub mod Journal
-pub mod Made
+pub mod NamenodeValue
 pub mod NewNodes
 pub mod Outcome
+pub mod Reasons
 pub mod RowCounts
 pub mod RowLines
 pub mod RowFiles

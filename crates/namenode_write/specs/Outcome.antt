@@ -12,9 +12,10 @@ use Rattle.hs_plain.specs.declared.state.State.{State}
 use Rattle.hs_plain.specs.declared.resolve.AskFault.{AskFault}
 use Rattle.hs_plain.specs.declared.resolve.AskFault.TheVariants.{Refused, NoMemory}
 use Rattle.hs_plain.specs.Answer.{answer, is_modifying, is_ok_reply, uses_store}
+use Rattle.inode_table.specs.Kept.{told}
 use Rattle.namenode_write.specs.declared.rows.space.RowSpace.{RowSpace}
-use Rattle.namenode_write.specs.Made.{IsRefusal}
-use Rattle.namenode_write.specs.Rows.{held, all_of, weight, done, IsAt, IsDone}
+use Rattle.namenode_write.specs.Reasons.{IsRefusal}
+use Rattle.namenode_write.specs.Rows.{held, all_of, value_of, weight, done, IsAt, IsDone}
 
 -- how many entries there are
 abbrev pub tick_of : {S : Type 0} → RowSpace S → ℕ
@@ -89,13 +90,18 @@ pub record IsOutcome {S : Type 0} (blocks : S → Option BlockMap) (greatest fau
   -- or it wasn't: why, and the plain state is as before
   pub cause : IfErr result (λ fault. (plain : State (List ℕ)) → IsAt (held blocks greatest before) (tick_of before) plain → IsReason (is_full before) plain call fault)
   pub kept : OnErr result ((plain : State (List ℕ)) → IsAt (held blocks greatest before) (tick_of before) plain → IsAt (held blocks greatest after) (tick_of before) plain)
-  -- a refusal changes nothing at all, and want of memory nothing that is held but in a call that may meet a fault of the store
+  -- a refusal changes nothing at all, not even room
   pub refused : IfErr result (λ fault. is_refusal fault ≡ true → after ≡ before)
-  pub quiet : uses_store call ≡ false → OnErr result (held blocks greatest after ≡ held blocks greatest before)
-  -- the journal has no entry more, but a place for one where an entry is due
+  -- a call that isn't done changes neither rows nor snapshots, and but for room nothing at all where it doesn't use the store
+  pub undone_table : OnErr result (told after.table ≡ told before.table)
+  pub undone_snaps : OnErr result (after.snaps ≡ before.snaps)
+  pub undone : uses_store call ≡ false → OnErr result (value_of after after.journal.items ≡ value_of before before.journal.items)
+  -- a read changes nothing that is held
+  pub reads : is_modifying call ≡ false → held blocks greatest after ≡ held blocks greatest before
+  -- the journal has no entry more, but a place for one after a call that is done, a read among them, and where the store failed
   pub journal : after.journal.items ≡ before.journal.items
   pub limit : after.limit ≡ before.limit
-  pub place : OnOk result (is_modifying call ≡ true → HasPlace after)
+  pub place : OnOk result (HasPlace after)
   pub fault_place : IsErrOf result (Refused StoreFault) → HasPlace after
   -- the store tells its blocks as before, its count doesn't fall, and it rose where the store failed
   pub tells : is_some (blocks after.store) ≡ is_some (blocks before.store)
@@ -103,7 +109,8 @@ pub record IsOutcome {S : Type 0} (blocks : S → Option BlockMap) (greatest fau
   pub rose : IsErrOf result (Refused StoreFault) → Rose (faults before.store) (faults after.store)
   -- it isn't asked where it needn't be
   pub store : is_storeless call ≡ true → after.store ≡ before.store
-  -- where it doesn't fail, no block waits after a call that lets blocks go
+  -- a call that is done leaves the blocks that wait, unless it frees them; then none waits where the store doesn't fail
+  pub waits : is_freeing call ≡ false → OnOk result (all_of after.waiting.items ≡ all_of before.waiting.items)
   pub freed : is_freeing call ≡ true → OnOk result ((Rose (faults before.store) (faults after.store) → ⊥) → all_of after.waiting.items ≡ [])
 
 -- a call that changes the tree, but for the bytes of its files

@@ -5,6 +5,7 @@ use Rattle.hs_types.specs.Blocks.{BlockMap}
 use Rattle.hs_types.specs.declared.ids.BlockId.{BlockId}
 use Rattle.hs_types.specs.declared.call.Call.{Call}
 use Rattle.hs_types.specs.declared.reply.Reply.{Reply}
+use Rattle.hs_types.specs.declared.journal.Entry.{Entry}
 use Rattle.hs_plain.specs.declared.state.State.{State}
 use Rattle.hs_plain.specs.Files.{plain_files}
 use Rattle.hs_plain.specs.Answer.{answer, claimed, is_modifying, is_ok_reply}
@@ -15,6 +16,7 @@ use Rattle.inode_table.specs.Tabled.{Tabled}
 use Rattle.inode_table.specs.Totals as totals
 use Rattle.inode_table.specs.Whole.{StandsForPlain}
 use Rattle.namenode_write.specs.declared.rows.space.RowSpace.{RowSpace}
+use Rattle.namenode_write.specs.NamenodeValue.{NamenodeValue}
 
 -- table, snapshots, blocks of the store where it tells them, the greatest number that it has given, and the blocks that wait to be freed
 pub record Held : Type 0 where
@@ -31,6 +33,10 @@ all_of lists = flat_map (λ blocks. blocks) lists
 -- what is held in memory, by what a store tells
 abbrev pub held : {S : Type 0} → (S → Option BlockMap) → (S → ℕ) → RowSpace S → Held
 held blocks greatest space = record { table = told space.table; snaps = space.snaps; store = blocks space.store; greatest = greatest space.store; waiting = all_of space.waiting.items }
+
+-- a namenode's journal beside what it holds
+abbrev pub value_of : {S : Type 0} → RowSpace S → List Entry → NamenodeValue S
+value_of space journal = record { entries = journal; store = space.store; limit = space.limit; table = told space.table; snaps = space.snaps; waiting = all_of space.waiting.items }
 
 -- rows, records, entries of lists and live snapshots
 abbrev pub weight : Held → State (List ℕ) → ℕ

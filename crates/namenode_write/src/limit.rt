@@ -44,6 +44,14 @@ impl JournalLimit {
         }
     }
 
+    /// What holds of a limit at all times. It does nothing.
+    pub fn always(self)
+        ensures at_least { 1 ≤ self }
+        ensures at_most { self ≤ 1000000 }
+    {
+        let _ = self.entries;
+    }
+
     /// The number of entries.
     pub fn entries(self) -> u32
         ensures value { result ≡ self }

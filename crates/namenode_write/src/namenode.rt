@@ -9,8 +9,8 @@ ghost use Rattle.inode_table.specs.Totals.{counts_of as table_counts};
 ghost use Rattle.inode_table.specs.Whole.{StandsForPlain};
 ghost use Rattle.namenode_write.specs.Faulted.{fault_count};
 ghost use Rattle.namenode_write.specs.Outcome.{IsOutcome, tick_of};
-ghost use Rattle.namenode_write.specs.Rows.{held, IsStanding};
-ghost use Rattle.namenode_write.specs.Step.{IsConsistent, IsStep, value_of, weight_of};
+ghost use Rattle.namenode_write.specs.Rows.{held, value_of, IsStanding};
+ghost use Rattle.namenode_write.specs.Step.{IsConsistent, IsStep, weight_of};
 
 use crate::limit::JournalLimit;
 use crate::rows::calls::make_call;
@@ -37,11 +37,12 @@ pub struct Namenode<B: BlockStore> {
 }
 
 impl<B: BlockStore> Model for Namenode<B> {
-    ghost use Rattle.namenode_write.specs.Journal.{Journal};
+    ghost use Rattle.namenode_write.specs.NamenodeValue.{NamenodeValue};
 
-    ghost Value = { Journal B };
+    ghost Value = { NamenodeValue B };
 
-    ghost use Rattle.namenode_write.specs.Step.{IsConsistent, value_of};
+    ghost use Rattle.namenode_write.specs.Rows.{value_of};
+    ghost use Rattle.namenode_write.specs.Step.{IsConsistent};
 
     ghost view = { λ n. value_of n.space n.journal };
 
@@ -127,7 +128,7 @@ fn do_in<B: BlockStore>(
 ) -> Answered
     requires exclusive { is_exclusive call ≡ true }
     requires consistent { IsConsistent B.blocks B.greatest B.faults space.old space.old.journal.items }
-    ensures step { IsStep B.blocks B.faults (value_of space.old space.old.journal.items) (value_of space.new space.new.journal.items) caller seq call result }
+    ensures step { IsStep B.blocks B.greatest B.faults (value_of space.old space.old.journal.items) (value_of space.new space.new.journal.items) caller seq call result }
     ensures consistent { IsConsistent B.blocks B.greatest B.faults space.new space.new.journal.items }
 {
     let reply = reply_of(make_call(alloc, space, &call));
@@ -146,6 +147,7 @@ impl<B: BlockStore> Namenode<B> {
         ensures limit { IfOk result (λ namenode. namenode.limit ≡ limit) }
         ensures waiting { IfOk result (λ namenode. namenode.waiting ≡ []) }
     {
+        limit.always();
         Ok(Namenode {
             alloc,
             space: RowSpace {
@@ -165,7 +167,7 @@ impl<B: BlockStore> Namenode<B> {
     /// after `NoMemory`, the plain state is as before, and the call is handed back.
     pub fn do_call(&mut self, caller: CallerId, seq: u64, call: Call) -> Answered
         requires exclusive { is_exclusive call ≡ true }
-        ensures { IsStep B.blocks B.faults self.old self.new caller seq call result }
+        ensures { IsStep B.blocks B.greatest B.faults self.old self.new caller seq call result }
     {
         self.space.journal = self.journal.take();
         let answered = do_in(self.alloc, &mut self.space, caller, seq, call);
@@ -194,6 +196,7 @@ impl<B: BlockStore> Namenode<B> {
         ensures entries { result.now ≡ self.now.entries }
         ensures proper { is_proper self.now.entries ≡ true }
         ensures within { length self.now.entries ≤ self.now.limit }
+        ensures most { self.now.limit ≤ 1000000 }
     {
         &self.journal
     }
@@ -211,6 +214,11 @@ impl<B: BlockStore> Namenode<B> {
         ensures rows { record { rows = result.rows; records = result.records; list_entries = result.list_entries } ≡ table_counts self.now.table.rows }
         ensures live { length (plain_after self.now.entries).tree ≤ result.rows }
         ensures snapshots { result.snapshots ≡ length (plain_after self.now.entries).members }
+
+        // Without snapshots there are no records, and no rows but those of the live tree.
+        ensures bare_records { (plain_after self.now.entries).members ≡ [] → result.records ≡ 0 }
+        ensures bare_rows { (plain_after self.now.entries).members ≡ [] → result.rows ≡ length (plain_after self.now.entries).tree }
+
         ensures weight { result.rows + (result.records + result.list_entries) + result.snapshots ≡ weight_of self.now }
         ensures light { weight_of self.now ≤ 10 * length self.now.entries + 1 }
     {
@@ -234,6 +242,7 @@ impl<B: BlockStore> Namenode<B> {
         ensures store { result.1 ≡ self.store }
         ensures proper { is_proper self.entries ≡ true }
         ensures within { length self.entries ≤ self.limit }
+        ensures most { self.limit ≤ 1000000 }
         ensures counted { fault_count self.entries ≤ B.faults self.store }
     {
         let Namenode {

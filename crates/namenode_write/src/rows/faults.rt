@@ -1,6 +1,6 @@
 //! Faults of the store, told as faults of a call.
 ghost use Rattle.std.specs.Prelude.{◌≡◌};
-ghost use Rattle.namenode_write.specs.Made.{fault_of as plain_fault_of};
+ghost use Rattle.namenode_write.specs.Reasons.{fault_of as plain_fault_of};
 
 use block_store::StoreErr;
 use hs_plain::AskFault;

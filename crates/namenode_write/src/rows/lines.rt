@@ -270,6 +270,10 @@ pub(crate) fn counts_of(table: &Table, snaps: &Snaps, waiting: &[List<BlockId>])
     ensures weight { result.rows + (result.records + result.list_entries) ≡ weight (told table.now).rows }
     ensures live { (state : State FileBlocks) → StandsFor (told table.now) snaps.now state → length state.tree ≤ result.rows }
     ensures snapshots { (state : State FileBlocks) → StandsFor (told table.now) snaps.now state → result.snapshots ≡ length state.members }
+
+    // Without snapshots there are no records, and no rows but those of the live tree.
+    ensures bare_records { (state : State FileBlocks) → StandsFor (told table.now) snaps.now state → state.members ≡ [] → result.records ≡ 0 }
+    ensures bare_rows { (state : State FileBlocks) → StandsFor (told table.now) snaps.now state → state.members ≡ [] → result.rows ≡ length state.tree }
 {
     let counts = table.counts();
     Counts {

@@ -15,7 +15,7 @@ ghost use Rattle.inode_table.specs.Whole.{StandsFor};
 ghost use Rattle.namenode_write.specs.Moving.{first_id};
 
 use hs_plain::AskFault;
-use hs_plain::modifying::{live_path, refuse_if};
+use hs_plain::modifying::{first_of, live_paths, refuse_if};
 use hs_plain::tree::{is_above, is_root_path};
 use hs_types::{InodeId, List, Name, PathText, Refusal};
 use inode_table::Table;
@@ -23,33 +23,6 @@ use path_resolver::above::{holds_snapshots, holds_snapshottable, is_in_snapshott
 use path_resolver::by_rows::{live, node_there, walks_above};
 use snapshot_manager::Snaps;
 use std::alloc::Global;
-
-/// Of two refusals the one with the lesser number, and of one number the first.
-fn first_of(a: Refusal, b: Refusal) -> Refusal
-    ensures { result ≡ Asked.first_of a b }
-{
-    if b.number() < a.number() { b } else { a }
-}
-
-/// The live paths that two texts of a modifying call name.
-fn live_paths(
-    alloc: Global,
-    old: &PathText,
-    new: &PathText,
-) -> Result<(List<Name>, List<Name>), AskFault>
-    ensures { MatchResult result (λ paths. Asked.both (Modifying.live_path old.now) (Modifying.live_path new.now) ≡ Ok paths) (IsFaultOf (Asked.both (Modifying.live_path old.now) (Modifying.live_path new.now))) }
-{
-    match (live_path(alloc, old), live_path(alloc, new)) {
-        (Ok(old), Ok(new)) => Ok((old, new)),
-        (Err(AskFault::Refused(a)), Err(AskFault::Refused(b))) => {
-            Err(AskFault::Refused(first_of(a, b)))
-        }
-        (Err(AskFault::Refused(why)), Ok(_)) | (Ok(_), Err(AskFault::Refused(why))) => {
-            Err(AskFault::Refused(why))
-        }
-        (Err(AskFault::NoMemory), _) | (_, Err(AskFault::NoMemory)) => Err(AskFault::NoMemory),
-    }
-}
 
 /// The node that is to move, where the parent of its new place is there too.
 fn walk_both(table: &Table, old: &[Name], new: &[Name]) -> Result<InodeId, Refusal>

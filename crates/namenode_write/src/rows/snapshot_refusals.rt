@@ -1,5 +1,5 @@
 //! What calls on snapshots ask for, or why they are refused, by look-ups in a table and its snapshots.
-ghost use Rattle.std.specs.Prelude.{◌≡◌, not, nat_le, Ok, IfOk, IfErr, MatchResult};
+ghost use Rattle.std.specs.Prelude.{◌≡◌, not, nat_le, Ok, IfOk, MatchResult};
 ghost use Rattle.hs_types.specs.Limits.{snapshot_limit};
 ghost use Rattle.hs_types.specs.Names.{is_name};
 ghost use Rattle.hs_types.specs.declared.ids.SnapId.{SnapId};
@@ -10,7 +10,6 @@ ghost use Rattle.hs_plain.specs.Asked.{refuse_if as plain_refuse_if};
 ghost use Rattle.hs_plain.specs.Snapshotting;
 ghost use Rattle.hs_plain.specs.State as states;
 ghost use Rattle.hs_plain.specs.inside.Faults.{IsFaultOf};
-ghost use Rattle.snapshot_manager.specs.Snapshots.{Snapshots};
 ghost use Rattle.inode_table.specs.Kept.{told};
 ghost use Rattle.inode_table.specs.Tabled.{Tabled};
 ghost use Rattle.inode_table.specs.Whole.{StandsFor};
@@ -22,6 +21,7 @@ use hs_types::{InodeId, Name, NameFault, NameText, PathText, Refusal, SnapId};
 use inode_table::Table;
 use path_resolver::above::meets_snapshottable;
 use path_resolver::asked::directory_at;
+use path_resolver::sought::snapshot_sought;
 use snapshot_manager::{SNAPSHOT_LIMIT, Snaps};
 use std::alloc::Global;
 
@@ -56,16 +56,6 @@ fn is_full(snaps: &Snaps, dir: InodeId) -> bool
     }
 }
 
-/// The snapshot of this name.
-fn snapshot_named(snaps: &Snaps, dir: InodeId, name: &Name) -> Result<SnapId, Refusal>
-    ensures { (table : Tabled) (state : State FileBlocks) → StandsFor table snaps.now state → result ≡ states.snapshot_named state.members dir name.now }
-{
-    match snaps.by_name(dir, name) {
-        Some(item) => Ok(item.id),
-        None => Err(Refusal::NoSnapshot),
-    }
-}
-
 /// A text as the name of a new snapshot.
 fn new_name(alloc: Global, text: &NameText) -> Result<Name, AskFault>
     ensures asked { MatchResult result (λ name. plain_refuse_if (not (is_name text.now)) NotSnapshotName ≡ Ok tt) (IsFaultOf (plain_refuse_if (not (is_name text.now)) NotSnapshotName)) }
@@ -74,18 +64,6 @@ fn new_name(alloc: Global, text: &NameText) -> Result<Name, AskFault>
     match Name::read(alloc, text) {
         Ok(name) => Ok(name),
         Err(NameFault::Illegal) => Err(AskFault::Refused(Refusal::NotSnapshotName)),
-        Err(NameFault::NoMemory) => Err(AskFault::NoMemory),
-    }
-}
-
-/// A text as the name of a snapshot that is sought: none has a name that isn't one.
-fn sought_name(alloc: Global, text: &NameText) -> Result<Name, AskFault>
-    ensures refused { (table : Tabled) (snaps : Snapshots) (state : State FileBlocks) → StandsFor table snaps state → (dir : InodeId) → IfErr result (IsFaultOf (states.snapshot_named state.members dir text.now)) }
-    ensures same { IfOk result (λ name. name ≡ text.now) }
-{
-    match Name::read(alloc, text) {
-        Ok(name) => Ok(name),
-        Err(NameFault::Illegal) => Err(AskFault::Refused(Refusal::NoSnapshot)),
         Err(NameFault::NoMemory) => Err(AskFault::NoMemory),
     }
 }
@@ -151,21 +129,6 @@ pub(crate) fn snap_at(
     let name = new_name(alloc, name)?;
     takes_snapshot(snaps, dir, &name)?;
     Ok((dir, name))
-}
-
-/// The id of a directory's snapshot, and its name.
-fn snapshot_sought(
-    alloc: Global,
-    snaps: &Snaps,
-    dir: InodeId,
-    text: &NameText,
-) -> Result<(SnapId, Name), AskFault>
-    ensures asked { (table : Tabled) (state : State FileBlocks) → StandsFor table snaps.now state → MatchResult result (λ at. states.snapshot_named state.members dir text.now ≡ Ok at.0) (IsFaultOf (states.snapshot_named state.members dir text.now)) }
-    ensures name { IfOk result (λ at. at.1 ≡ text.now) }
-{
-    let name = sought_name(alloc, text)?;
-    let id = snapshot_named(snaps, dir, &name)?;
-    Ok((id, name))
 }
 
 /// The snapshot that is to go.

@@ -1,10 +1,12 @@
-use Rattle.std.proofs.Common.{◌+◌, length, Ok, sym, ap, ◌∙◌, arith}
+use Rattle.std.proofs.Common.{◌≡◌, ◌+◌, length, Ok, sym, ap, subst, ◌∙◌, arith}
 use Rattle.hs_types.specs.declared.call.Call.TheVariants as calls
 use Rattle.hs_types.specs.declared.reply.Reply.TheVariants as replies
 use Rattle.hs_plain.specs.Modifying.{append_at}
+use Rattle.inode_table.specs.Kept.{told}
 use Rattle.inode_table.specs.RowHistory.{rows_at}
 use Rattle.inode_table.specs.Tabled.{Tabled}
 use Rattle.namenode_write.specs.declared.rows.space.RowSpace.{RowSpace}
+use Rattle.namenode_write.specs.Appending.{file_now, IsCopyFor}
 use Rattle.namenode_write.specs.RowFiles.{file_in}
 use Rattle.namenode_write.proofs.AppendOutcomes.{append-answered, then-can, then-outcome}
 use Rattle.namenode_write.proofs.Causes.{fault-replied}
@@ -28,9 +30,14 @@ returns-in_err-seat g c =
     memory-outcome g.B.BlockStore.blocks g.B.BlockStore.greatest g.B.BlockStore.faults c.args.space.now c.make_place.new.space (calls.Append c.args.path.now c.args.bytes.now) c.from_residual-in_err-seat.result c.from_residual-in_err-seat.ensures.1
     (place-alike g.B.BlockStore.blocks g.B.BlockStore.greatest c.args.space.now c.make_place.new.space c.make_place.ensures.kept c.make_place.ensures.journal)
 
-pub returns-in_err-file : goal.returns-in_err-file
-returns-in_err-file g c =
-    memory-outcome g.B.BlockStore.blocks g.B.BlockStore.greatest g.B.BlockStore.faults c.args.space.now c.make_place.new.space (calls.Append c.args.path.now c.args.bytes.now) c.from_residual-in_err-file.result c.from_residual-in_err-file.ensures.1
+pub returns-in_err-size : goal.returns-in_err-size
+returns-in_err-size g c =
+    memory-outcome g.B.BlockStore.blocks g.B.BlockStore.greatest g.B.BlockStore.faults c.args.space.now c.make_place.new.space (calls.Append c.args.path.now c.args.bytes.now) c.from_residual-in_err-size.result c.from_residual-in_err-size.ensures.1
+    (place-alike g.B.BlockStore.blocks g.B.BlockStore.greatest c.args.space.now c.make_place.new.space c.make_place.ensures.kept c.make_place.ensures.journal)
+
+pub returns-in_err-copy : goal.returns-in_err-copy
+returns-in_err-copy g c =
+    memory-outcome g.B.BlockStore.blocks g.B.BlockStore.greatest g.B.BlockStore.faults c.args.space.now c.make_place.new.space (calls.Append c.args.path.now c.args.bytes.now) c.from_residual-in_err-copy.result c.from_residual-in_err-copy.ensures.1
     (place-alike g.B.BlockStore.blocks g.B.BlockStore.greatest c.args.space.now c.make_place.new.space c.make_place.ensures.kept c.make_place.ensures.journal)
 
 pub returns-in_err-make_room : goal.returns-in_err-make_room
@@ -51,10 +58,14 @@ append_ready-requires-clause-tick g c =
     (room-alike g.B.BlockStore.blocks g.B.BlockStore.greatest c.args.space.now c.make_place.new.space c.make_place.ensures.kept c.make_place.ensures.journal c.make_room.new.space c.make_room.ensures.table c.make_room.ensures.waiting c.make_room.ensures.kept)))
 
 pub append_ready-requires-clause-row : goal.append_ready-requires-clause-row
-append_ready-requires-clause-row g c = ap (λ (t : Tabled). file_in 0 (rows_at t.rows c.in_ok-seat.seat.id)) c.make_room.ensures.table ∙ c.in_ok-file.ensures.row
+append_ready-requires-clause-row g c =
+    subst (λ (t : Tabled). file_in 0 (rows_at t.rows c.in_ok-seat.seat.id) ≡ Ok (file_now c.in_ok-size.size (rows_at t.rows c.in_ok-seat.seat.id))) (sym c.make_room.ensures.table) c.in_ok-size.ensures.row
+
+pub append_ready-requires-clause-copy : goal.append_ready-requires-clause-copy
+append_ready-requires-clause-copy g c = subst (λ (t : Tabled). IsCopyFor t c.in_ok-seat.seat c.in_ok-copy.copy) (sym c.make_room.ensures.table) c.in_ok-copy.ensures
 
 pub append_ready-requires-clause-small : goal.append_ready-requires-clause-small
-append_ready-requires-clause-small g c = let n = ap length c.bytes.ensures.bytes in let small = c.in_ok-file.ensures.small in omega (arith, n, small)
+append_ready-requires-clause-small g c = let n = ap length c.bytes.ensures.bytes in let small = c.in_ok-size.ensures.small in omega (arith, n, small)
 
 pub append_ready-requires-clause-can : goal.append_ready-requires-clause-can
 append_ready-requires-clause-can g c =
@@ -66,7 +77,8 @@ append_ready-requires-clause-can g c =
     c.args.path.now c.items.result.now c.in_ok-seat.seat
     (λ state stands. c.in_ok-path.ensures before.snaps state stands ∙ ap Ok (sym c.items.ensures))
     (λ state stands. place-seat before placed kept state c.items.result.now c.in_ok-seat.seat (c.in_ok-seat.ensures state (place-stands before placed kept state stands)))
-    c.in_ok-file.file (ap (λ (t : Tabled). file_in 0 (rows_at t.rows c.in_ok-seat.seat.id)) (sym (place-told before placed kept)) ∙ c.in_ok-file.ensures.row) c.requires.standing
+    (file_now c.in_ok-size.size (rows_at (told placed.table).rows c.in_ok-seat.seat.id))
+    (ap (λ (t : Tabled). file_in 0 (rows_at t.rows c.in_ok-seat.seat.id)) (sym (place-told before placed kept)) ∙ c.in_ok-size.ensures.row) c.requires.standing
 
 pub append_ready-requires-clause-place : goal.append_ready-requires-clause-place
 append_ready-requires-clause-place g c =
@@ -83,6 +95,7 @@ returns g c =
     c.args.path.now c.items.result.now c.in_ok-seat.seat
     (λ state stands. c.in_ok-path.ensures before.snaps state stands ∙ ap Ok (sym c.items.ensures))
     (λ state stands. place-seat before placed kept state c.items.result.now c.in_ok-seat.seat (c.in_ok-seat.ensures state (place-stands before placed kept state stands)))
-    c.append_ready.new.space c.args.bytes.now c.in_ok-file.file c.append_ready.result
+    c.append_ready.new.space c.args.bytes.now (file_now c.in_ok-size.size (rows_at (told roomed.table).rows c.in_ok-seat.seat.id)) c.append_ready.result
     (same-place placed roomed (ap (λ (r : RowSpace _). r.journal) c.make_room.ensures.kept) (ap (λ (r : RowSpace _). r.limit) c.make_room.ensures.kept) c.in_ok-tick.ensures.place)
-    (ap (λ (t : Tabled). file_in 0 (rows_at t.rows c.in_ok-seat.seat.id)) (sym (place-told before placed kept)) ∙ c.in_ok-file.ensures.row) c.append_ready.ensures
+    (ap (λ (t : Tabled). file_in 0 (rows_at t.rows c.in_ok-seat.seat.id)) (sym (place-told before placed kept)) ∙ c.in_ok-size.ensures.row
+    ∙ ap (λ (t : Tabled). Ok (file_now c.in_ok-size.size (rows_at t.rows c.in_ok-seat.seat.id))) (sym c.make_room.ensures.table)) c.append_ready.ensures

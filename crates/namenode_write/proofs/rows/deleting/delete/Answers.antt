@@ -67,5 +67,5 @@ returns g c =
     let now = c.in_ok-tick.ensures.tick in
     let step = c.remove.ensures in
     freed-outcome g.B.BlockStore.blocks g.B.BlockStore.greatest g.B.BlockStore.faults c.args.space.now middle after (calls.Delete c.args.path.now c.args.recursive) replies.Done (remove-done ready middle tick now step) (remove-light ready middle tick now step)
-    (remove-store ready middle tick now step) (remove-journal ready middle tick now step) (remove-limit ready middle tick now step) (λ so. remove-place ready middle tick now step c.in_ok-tick.ensures.place) refl
+    (remove-store ready middle tick now step) (remove-journal ready middle tick now step) (remove-limit ready middle tick now step) (remove-place ready middle tick now step c.in_ok-tick.ensures.place) refl refl refl
     refl c.free_waiting.ensures.standing c.free_waiting.ensures.tells c.free_waiting.ensures.count c.free_waiting.ensures.freed

@@ -65,4 +65,4 @@ returns g c =
     (λ plain at. mode-heavier h (held g.B.BlockStore.blocks g.B.BlockStore.greatest after) (tick_of before) plain at c.args.path.now c.args.mode path seat (asks plain at) (seated plain at) table
     (ap (λ (r : RowSpace _). r.snaps) kept) (ap (λ (r : RowSpace _). g.B.BlockStore.blocks r.store) kept) (ap (λ (r : RowSpace _). g.B.BlockStore.greatest r.store) kept) (ap (λ (r : RowSpace _). all_of r.waiting.items) kept))
     (ap (λ (r : RowSpace _). r.store) kept) c.make_place.ensures.journal (ap (λ (r : RowSpace _). r.limit) kept)
-    (λ so. record { below = place.below; most = place.most; room = place.room }) refl
+    (record { below = place.below; most = place.most; room = place.room }) refl refl (ap (λ (r : RowSpace _). all_of r.waiting.items) kept)

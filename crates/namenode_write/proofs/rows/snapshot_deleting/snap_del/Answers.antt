@@ -56,4 +56,4 @@ returns g c =
     freed-outcome g.B.BlockStore.blocks g.B.BlockStore.greatest g.B.BlockStore.faults c.args.space.now middle after (calls.SnapDel c.args.path.now c.args.name.now) replies.Done
     (drop-done is g.B.BlockStore.blocks g.B.BlockStore.greatest c.args.path.now c.args.name.now c.in_ok-id.ensures)
     (drop-light is g.B.BlockStore.blocks g.B.BlockStore.greatest c.args.path.now c.args.name.now c.in_ok-id.ensures)
-    (drop-store is) (drop-journal is) (drop-limit is) (λ so. drop-place is) refl refl c.free_waiting.ensures.standing c.free_waiting.ensures.tells c.free_waiting.ensures.count c.free_waiting.ensures.freed
+    (drop-store is) (drop-journal is) (drop-limit is) (drop-place is) refl refl refl refl c.free_waiting.ensures.standing c.free_waiting.ensures.tells c.free_waiting.ensures.count c.free_waiting.ensures.freed

@@ -2,7 +2,7 @@ use Rattle.hs_types.specs.declared.call.Place.TheVariants as places
 use Rattle.inode_table.specs.Kept.{told}
 use Rattle.namenode_write.proofs.AppendedCalls.{row-known, append-fits}
 use Rattle.namenode_write.proofs.RowFiles.{place-file, place-held}
-use Rattle.namenode_write.proofs.rows.appending.append_ready.Goals as goal
+use Rattle.namenode_write.proofs.rows.appending.append_copy.Goals as goal
 
 pub append-requires-clause-file : goal.append-requires-clause-file
 append-requires-clause-file g c = place-file (told c.args.space.now.table).rows _ _ _ c.requires.standing.1.stands.blocks (places.Live c.args.seat.id) c.args.file c.requires.row

@@ -1,14 +1,14 @@
 -- How far a store's count of faults rises with the faulted entries of a journal.
 use Rattle.std.specs.Prelude.{ℕ, ◌+◌, ◌-◌, ◌^◌, ◌<◌, ◌≤◌, min}
 use Rattle.namenode_write.specs.Faulted.{fault_count}
-use Rattle.namenode_write.specs.Journal.{Journal}
+use Rattle.namenode_write.specs.NamenodeValue.{NamenodeValue}
 
 -- the count rose so often, or stands at the last number of a u64
 abbrev pub RoseBy : ℕ → ℕ → ℕ → Type 0
 RoseBy times before now = min (before + times) (2 ^ 64 - 1) ≤ now
 
 -- for each faulted entry that came, the store's count rose
-pub record AreCounted {S : Type 0} (faults : S → ℕ) (old new : Journal S) : Type 0 where
+pub record CountsFaults {S : Type 0} (faults : S → ℕ) (old new : NamenodeValue S) : Type 0 where
   pub more : fault_count old.entries ≤ fault_count new.entries
   pub rose : RoseBy (fault_count new.entries - fault_count old.entries) (faults old.store) (faults new.store)
 

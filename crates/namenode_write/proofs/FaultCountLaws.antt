@@ -10,8 +10,8 @@ use Rattle.hs_types.specs.Faults.{Rose}
 use Rattle.hs_plain.specs.Answer.{is_store_fault}
 use Rattle.hs_plain.specs.Legal.{Said, entry_left, entry_of, leaves_entry}
 use Rattle.namenode_write.specs.Faulted.{is_faulted, fault_count}
-use Rattle.namenode_write.specs.Counted.{AreCounted, RisesAtMost}
-use Rattle.namenode_write.specs.Journal.{Journal}
+use Rattle.namenode_write.specs.FaultCounts.{CountsFaults}
+use Rattle.namenode_write.specs.NamenodeValue.{NamenodeValue}
 
 fault_count-append : (entries more : List Entry) → fault_count (entries ++ more) ≡ fault_count entries + fault_count more
 fault_count-append entries more = sum_by-append (λ entry. cond (is_faulted entry.kind) 1 0) entries more
@@ -26,10 +26,10 @@ one_faulted : (leaves : Bool) (entry : Entry) → fault_count (option_to_list (i
 one_faulted false entry = omega arith
 one_faulted true entry = count_by-le-length (λ entry. is_faulted entry.kind) (entry ∷ [])
 
-counted_if : {S : Type 0} (is : Bool) (faults : S → ℕ) (old new : Journal S) (caller : CallerId) (said : Said) → is_store_fault said.told.reply ≡ is →
+counted_if : {S : Type 0} (is : Bool) (faults : S → ℕ) (old new : NamenodeValue S) (caller : CallerId) (said : Said) → is_store_fault said.told.reply ≡ is →
     new.entries ≡ old.entries ++ option_to_list (entry_left caller said) →
     (is_store_fault said.told.reply ≡ true → Rose (faults old.store) (faults new.store)) → faults old.store ≤ faults new.store →
-    AreCounted faults old new
+    CountsFaults faults old new
 counted_if true faults old new caller said so grows cause rises =
     let rose : min (faults old.store + 1) (2 ^ 64 - 1) ≤ faults new.store = cause so in
     let few = one_faulted (leaves_entry said.call said.told.reply) (entry_of caller said.seq said.call said.told.reply) in
@@ -41,23 +41,19 @@ counted_if false faults old new caller said so grows cause rises =
     record { more = omega (arith, none, sum); rose = omega (arith, none, sum, rises) }
 
 -- a call's entry is counted
-pub counted_call : {S : Type 0} (faults : S → ℕ) (old new : Journal S) (caller : CallerId) (said : Said) →
+pub counted_call : {S : Type 0} (faults : S → ℕ) (old new : NamenodeValue S) (caller : CallerId) (said : Said) →
     new.entries ≡ old.entries ++ option_to_list (entry_left caller said) →
     (is_store_fault said.told.reply ≡ true → Rose (faults old.store) (faults new.store)) → faults old.store ≤ faults new.store →
-    AreCounted faults old new
+    CountsFaults faults old new
 counted_call faults old new caller said = counted_if (is_store_fault said.told.reply) faults old new caller said refl
 
 -- nothing came
-pub counted_none : {S : Type 0} (faults : S → ℕ) (same : Journal S) → AreCounted faults same same
+pub counted_none : {S : Type 0} (faults : S → ℕ) (same : NamenodeValue S) → CountsFaults faults same same
 counted_none faults same = record { more = omega arith; rose = omega arith }
 
 -- one after the other
-pub counted_then : {S : Type 0} (faults : S → ℕ) (first middle last : Journal S) → AreCounted faults first middle → AreCounted faults middle last → AreCounted faults first last
+pub counted_then : {S : Type 0} (faults : S → ℕ) (first middle last : NamenodeValue S) → CountsFaults faults first middle → CountsFaults faults middle last → CountsFaults faults first last
 counted_then faults first middle last one two = record {
   more = omega (arith, one.more, two.more);
   rose = omega (arith, one.more, two.more, one.rose, two.rose);
 }
-
--- over stores whose counts rise at most so often there are at most so many faulted entries
-pub few_faulted : {S : Type 0} (faults : S → ℕ) (first last : Journal S) (most : ℕ) → first.entries ≡ [] → AreCounted faults first last → RisesAtMost most faults (faults first.store) → fault_count last.entries ≤ most
-few_faulted faults first last most empty counted rises = let none = ap fault_count empty in omega (arith, counted.rose, rises last.store, none)
