@@ -1,8 +1,9 @@
 -- What the last holder knows, when it has met every other seat.
-use Rattle.std.proofs.Common.{◌≡◌, ◌⊎◌, ℕ, zero, suc, ◌<◌, Bool, true, false, List, [], ◌∷◌, ◌++◌, length, Some, slice_get, refl, ap, sym, ◌∙◌, subst, ⊎_elim, inl, inr, arith, eq-eqb, append_assoc}
+use Rattle.std.proofs.Common.{◌≡◌, ◌⊎◌, ℕ, zero, suc, ◌<◌, Bool, true, false, List, [], ◌∷◌, ◌++◌, length, map, Some, slice_get, refl, ap, sym, ◌∙◌, subst, ⊎_elim, inl, inr, arith, eq-eqb, append_assoc}
 use Rattle.std.specs.Prelude.{All, Contains, filter, slice_index_or}
 use Rattle.std.specs.List.{AllByRecursion}
 use Rattle.std.proofs.lemmas.List.Elements.{recursion_from_All, All-from_recursion, All-cons}
+use Rattle.std.proofs.lemmas.List.{map-append}
 use mathlib.Core.List.{IsPrefix}
 use Rattle.hs_types.specs.declared.journal.Entry.{Entry}
 use Rattle.turn_lock.specs.declared.view.View.{View}
@@ -17,6 +18,10 @@ pub shows : (caller : ℕ) (u v p q : View) → u.holds ≡ true → Has v calle
 shows caller u v p q on has a b =
     let same : q.seen ≡ u.seen = meets_once u v p q a b ∙ (sym (ap (λ (z : View). z.seen) a.view) ∙ a.whole on) in
     (subst (λ (l : List Entry). IsPrefix v.seen l) same b.seen, ap (by_caller caller) (sym same) ∙ b.own caller has)
+
+-- the seats of a list without its last
+pub popped_map : {X : Type 0} (seat_of : X → Seat) (left now : List X) (x : X) (seat : Seat) → left ≡ now ++ x ∷ [] → seat ≡ seat_of x → map seat_of left ≡ map seat_of now ++ seat ∷ []
+popped_map seat_of left now x seat popped is = ap (map seat_of) popped ∙ (map-append seat_of now (x ∷ []) ∙ ap (λ (s : Seat). map seat_of now ++ s ∷ []) (sym is))
 
 -- one more at the front of those that were met
 pub met_more : (P : Seat → Type 0) (all left now : List Seat) (seat : Seat) (met : List Seat) → left ≡ now ++ seat ∷ [] → left ++ met ≡ all → P seat → All P met
@@ -114,3 +119,18 @@ last_of_all P (x ∷ xs) y a = last_of_all P xs y a.1
 
 pub all_last : {A : Type 0} (P : A → Type 0) (left now : List A) (x : A) → left ≡ now ++ x ∷ [] → All P left → P x
 all_last P left now x is a = last_of_all P now x (recursion_from_All P (now ++ x ∷ []) (subst (All P) is a))
+
+all_apply : {A : Type 0} (P Q : A → Type 0) (xs : List A) → ((x : A) → P x → Q x) → AllByRecursion P xs → AllByRecursion Q xs
+all_apply P Q [] f a = tt
+all_apply P Q (x ∷ xs) f a = (f x a.0, all_apply P Q xs f a.1)
+
+-- seats of one lock: the last one, and those before it at the lock's table
+pub popped_of_lock : {X : Type 0} (seat_of : X → Seat) (lock : Lock) (left now : List X) (x : X) (seat : Seat) → left ≡ now ++ x ∷ [] → seat ≡ seat_of x → All (λ (s : Seat). s.lock ≡ lock) (map seat_of left)
+    → (seat.lock ≡ lock) × All (λ (s : Seat). s.lock.table ≡ lock.table) (map seat_of now)
+popped_of_lock seat_of lock left now x seat popped is all =
+    let seats : map seat_of left ≡ map seat_of now ++ seat ∷ [] = popped_map seat_of left now x seat popped is in (
+      all_last (λ (s : Seat). s.lock ≡ lock) (map seat_of left) (map seat_of now) seat seats all,
+      All-from_recursion (λ (s : Seat). s.lock.table ≡ lock.table) (map seat_of now)
+          (all_apply (λ (s : Seat). s.lock ≡ lock) (λ (s : Seat). s.lock.table ≡ lock.table) (map seat_of now) (λ s e. ap (λ (l : Lock). l.table) e)
+          (recursion_from_All (λ (s : Seat). s.lock ≡ lock) (map seat_of now) (all_popped (λ (s : Seat). s.lock ≡ lock) (map seat_of left) (map seat_of now) seat seats all))),
+    )

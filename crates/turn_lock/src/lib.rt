@@ -16,4 +16,4 @@ mod view;
 
 pub use historied::{Historied, Kept, Work};
 pub use lock::{LookNoMemory, TurnLock};
-pub use seat::TurnSeat;
+pub use seat::{Seated, TurnSeat};

@@ -1,5 +1,5 @@
 //! The lock: one pointer, taken in turns.
-ghost use Rattle.std.specs.Prelude.{◌≡◌, ℕ, ◌<◌, ◌≤◌, [], ◌∷◌, true, length, Some, slice_get, vec_capacity, All, IfOk, IfErr};
+ghost use Rattle.std.specs.Prelude.{◌≡◌, ℕ, ◌<◌, ◌≤◌, [], ◌∷◌, true, length, map, Some, slice_get, vec_capacity, All, IfOk, IfErr};
 ghost use Rattle.std.specs.Arc.{arc_value};
 ghost use mathlib.Core.List.{IsPrefix};
 ghost use Rattle.turn_lock.specs.Histories.{by_caller, caller_of, LeadsOn, AddsOnlyBy, longer};
@@ -7,7 +7,7 @@ ghost use Rattle.turn_lock.specs.Seats.{MayFind, AreAll, AreInOrder, AreDealt, E
 ghost use Rattle.turn_lock.specs.Steps.{opener, at_rest};
 
 use crate::historied::{Historied, Work};
-use crate::seat::{TurnSeat, sit, stand_up};
+use crate::seat::{Seated, TurnSeat, sit, stand_up};
 use crate::steps::{give_back, meet, take, unwrap_alone, work_in_turn};
 use crate::table::{Deal, Place, Terms, Turning, Turns};
 use crate::view::View;
@@ -132,9 +132,20 @@ impl<T: Historied> TurnLock<T> {
         ensures seen { All (λ s. LeadsOn s.caller s.seen (T.history result)) seats }
         ensures entries { EachIsSeen seats (T.history result) }
     {
+        self.finish_seated(rt, seats)
+    }
+
+    /// The same where each seat is kept beside something else, so that no list of seats has to be made.
+    pub fn finish_seated<R: Wait, S: Seated>(self, rt: &R, seated: List<S>) -> T
+        requires lock { All (λ s. s.lock ≡ self) (map S.seat seated) }
+        requires all { AreAll self (map S.seat seated) }
+        ensures kept { T.kept result ≡ self.kept }
+        ensures seen { All (λ s. LeadsOn s.caller s.seen (T.history result)) (map S.seat seated) }
+        ensures entries { EachIsSeen (map S.seat seated) (T.history result) }
+    {
         let TurnLock { table } = self;
-        let mut others = seats.into_vec();
-        let mut holder = stand_up(others.pop().unwrap());
+        let mut others = seated.into_vec();
+        let mut holder = stand_up(others.pop().unwrap().into_seat());
         let value = take(rt, &table.shared, &mut holder);
         meet_each(&table.shared, &mut holder, others);
         unwrap_alone(rt, &table.shared, value)
@@ -171,16 +182,16 @@ fn deal<T: Historied>(turns: &Turns<T>, mut first: Place<T>, seats: u32, dealt: 
 }
 
 // The holder meets each of the other seats.
-fn meet_each<T: Historied>(turns: &Turns<T>, holder: &mut Place<T>, mut others: Vec<TurnSeat>)
+fn meet_each<T: Historied, S: Seated>(turns: &Turns<T>, holder: &mut Place<T>, mut others: Vec<S>)
     requires table { holder.old.table_id ≡ turns.now.table_id }
     requires words { turns.now.table_id.words ≡ 2 }
     requires slots { turns.now.table_id.slots ≡ 1 }
     requires holds { (holder.old.me.0.live ≡ true) × (holder.old.me.0.holds ≡ true) }
-    requires lock { All (λ s. s.lock.table ≡ turns.now.table_id) others.items }
-    ensures { All (λ s. LeadsOn s.caller s.seen holder.old.me.0.seen) others.items }
+    requires lock { All (λ s. s.lock.table ≡ turns.now.table_id) (map S.seat others.items) }
+    ensures { All (λ s. LeadsOn s.caller s.seen holder.old.me.0.seen) (map S.seat others.items) }
 {
-    while let Some(seat) = others.pop() {
-        meet_one(turns, holder, seat);
+    while let Some(seated) = others.pop() {
+        meet_one(turns, holder, seated.into_seat());
     }
 }
 

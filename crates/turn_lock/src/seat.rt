@@ -1,6 +1,7 @@
 //! The seats of a lock, as callers hold them.
 ghost use Rattle.std.specs.Prelude.{◌≡◌, [], ◌∷◌};
 ghost use Rattle.turn_lock.specs.declared.view.View.{View};
+ghost use Rattle.turn_lock.specs.Seats.{Seat};
 ghost use Rattle.turn_lock.specs.Steps.{at_rest};
 
 use crate::historied::Historied;
@@ -24,6 +25,24 @@ impl Model for TurnSeat {
     ghost view = { λ s. seat_at s.badge.table_id (view_of s.badge.views) };
 
     ghost invariant = { λ s. IsAtRest s.badge.views };
+}
+
+/// What a seat is given back by: the seat itself, or what keeps it beside something else.
+pub trait Seated: Drop {
+    /// The seat that it keeps.
+    ghost seat: { Self → Seat };
+
+    /// Gives up the seat. It takes no memory.
+    fn into_seat(self) -> TurnSeat
+        ensures { result ≡ seat self };
+}
+
+impl Seated for TurnSeat {
+    ghost seat = { λ s. s };
+
+    fn into_seat(self) -> TurnSeat {
+        self
+    }
 }
 
 // Takes the badge out of its place, where none is left.
