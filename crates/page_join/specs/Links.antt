@@ -75,8 +75,3 @@ LeadsOn caller seen journal = IsPrefix seen journal × (entries_of caller journa
 pub record IsMet (old new : Known) (longest : List Entry) : Type 0 where
   pub same : new ≡ record old { seen = longest }
   pub leads : LeadsOn old.caller old.seen longest
-
--- what two links of one namenode have in common
-pub record IsOneNamenode (a b : Known) : Type 0 where
-  pub limit : a.limit ≡ b.limit
-  pub tells : a.tells ≡ b.tells

@@ -3,7 +3,7 @@
 
 pub mod laws;
 pub mod link;
-mod paging;
+pub mod paging;
 mod reading;
 pub mod starts;
 

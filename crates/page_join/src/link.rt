@@ -1,7 +1,7 @@
 //! What a link to a namenode promises.
-ghost use Rattle.std.specs.Prelude.{◌≡◌, ◌≢◌, ℕ, Option};
+ghost use Rattle.std.specs.Prelude.{◌≡◌, ℕ, Option};
 ghost use base.Fml.{GName};
-ghost use Rattle.page_join.specs.Links.{Known, IsLawful, IsCall, LeadToOne, IsMet, IsOneNamenode, longer};
+ghost use Rattle.page_join.specs.Links.{Known, IsLawful, IsCall};
 
 use hs_types::{Answered, Call, CallerId};
 
@@ -17,22 +17,16 @@ pub trait NameLink: Drop {
     /// bytes, and the history that it has seen.
     ghost known: { Self → Known };
 
+    /// What else stays of its namenode from one call to the next, where it has the namenode alone.
+    ghost stays: { Self → Self → Type 0 };
+
     /// Makes a call: the answer is the plain machine's at a place of the namenode's one history behind all that the link has
     /// seen, and the link then has seen that history up to the answer.
     fn call(&mut self, call: Call) -> Answered
         ensures number { number self.new ≡ number self.old }
         ensures alone { alone self.new ≡ alone self.old }
+        ensures stays { stays self.old self.new }
         ensures call { IsCall (known self.old) (known self.new) call result };
-
-    /// Both links then have seen the longer one of what they had seen. It makes no call.
-    fn meet(&mut self, other: &mut Self)
-        requires one { LeadToOne (number self.old) (number other.old) }
-        requires differ { (known self.old).caller ≢ (known other.old).caller }
-        ensures numbers { (number self.new ≡ number self.old) × (number other.new ≡ number other.old) }
-        ensures alone { (alone self.new ≡ alone self.old) × (alone other.new ≡ alone other.old) }
-        ensures namenode { IsOneNamenode (known self.old) (known other.old) }
-        ensures first { IsMet (known self.old) (known self.new) (longer (known self.old).seen (known other.old).seen) }
-        ensures second { IsMet (known other.old) (known other.new) (longer (known self.old).seen (known other.old).seen) };
 
     /// Its caller.
     fn caller(&self) -> CallerId
@@ -43,4 +37,10 @@ pub trait NameLink: Drop {
     fn calls(&self) -> u64
         ensures calls { result ≡ (known self.now).calls }
         ensures lawful { IsLawful (known self.now) };
+
+    /// Without a call all stays.
+    ghost stays_first: { (link : Self) → stays link link };
+
+    /// What stays over some calls and over those behind them stays over all.
+    ghost stays_then: { (before now after : Self) → stays before now → stays now after → stays before after };
 }

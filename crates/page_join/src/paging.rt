@@ -13,7 +13,7 @@ use std::alloc::Global;
 
 /// What the pages are of, and how much one holds.
 #[derive(Clone, Copy, Debug, PartialEq, Eq)]
-pub(crate) enum Paging {
+pub enum Paging {
     /// Items of a listing.
     Items(PageSize),
     /// Lines of a report.
@@ -94,6 +94,7 @@ fn ask_one<L: NameLink>(
     requires reads { is_modifying call ≡ false }
     ensures number { L.number link.new ≡ L.number link.old }
     ensures alone { L.alone link.new ≡ L.alone link.old }
+    ensures stays { L.stays link.old link.new }
     ensures asked { IfOk result (IsAsked paging.now (L.known link.old) (L.known link.new) call replies.old.items replies.new.items) }
     ensures cut_off { OnErr result (AreCutOff paging.now (L.known link.old) (L.known link.new) call) }
 {
@@ -114,6 +115,7 @@ pub(crate) fn ask_pages<L: NameLink>(
     requires reads { is_modifying begin ≡ false }
     ensures number { L.number link.new ≡ L.number link.old }
     ensures alone { L.alone link.new ≡ L.alone link.old }
+    ensures stays { L.stays link.old link.new }
     ensures pages { IfOk result (ArePages paging (L.known link.old) (L.known link.new) begin) }
     ensures cut_off { OnErr result (AreCutOff paging (L.known link.old) (L.known link.new) begin) }
 {

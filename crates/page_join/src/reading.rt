@@ -21,6 +21,7 @@ pub fn list_all<L: NameLink>(
 ) -> Result<List<Answered>, NoMemory>
     ensures number { L.number link.new ≡ L.number link.old }
     ensures alone { L.alone link.new ≡ L.alone link.old }
+    ensures stays { L.stays link.old link.new }
     ensures listed { IfOk result (AreListed (L.known link.old) (L.known link.new) start size) }
     ensures cut_off { OnErr result (AreCutOff (pages_of.Items size) (L.known link.old) (L.known link.new) (list_call start size)) }
 {
@@ -38,6 +39,7 @@ pub fn report_all<L: NameLink>(
 ) -> Result<List<Answered>, NoMemory>
     ensures number { L.number link.new ≡ L.number link.old }
     ensures alone { L.alone link.new ≡ L.alone link.old }
+    ensures stays { L.stays link.old link.new }
     ensures reported { IfOk result (AreReported (L.known link.old) (L.known link.new) start size) }
     ensures cut_off { OnErr result (AreCutOff (pages_of.Lines size) (L.known link.old) (L.known link.new) (report_call start size)) }
 {
@@ -54,6 +56,7 @@ pub fn read_all<L: NameLink>(
 ) -> Result<List<Answered>, NoMemory>
     ensures number { L.number link.new ≡ L.number link.old }
     ensures alone { L.alone link.new ≡ L.alone link.old }
+    ensures stays { L.stays link.old link.new }
     ensures read { IfOk result (AreRead (L.known link.old) (L.known link.new) start) }
     ensures cut_off { OnErr result (AreCutOff pages_of.Bytes (L.known link.old) (L.known link.new) (read_call start)) }
 {

@@ -24,5 +24,6 @@ loop-next-preserved g c =
     record {
       number = c.ask_one.ensures.number ∙ c.loop-next.invariant.number;
       alone = c.ask_one.ensures.alone ∙ c.loop-next.invariant.alone;
+      stays = g.met.L.NameLink.stays_then c.args.link.now c.loop-next.link c.ask_one.new.link c.loop-next.invariant.stays c.ask_one.ensures.stays;
       pages = under_way c.args.paging old now new c.args.begin c.in-Some.call c.loop-next.replies.items c.ask_one.new.replies.items begun c.in_ok-next.next c.in_ok-next.ensures.asked;
     }

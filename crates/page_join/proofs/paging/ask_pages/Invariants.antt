@@ -7,6 +7,7 @@ abbrev pub invariant-loop-next : goal.invariant-loop-next
 invariant-loop-next g l = record {
   number : g.L.NameLink.number l.link ≡ g.L.NameLink.number l.initial.link;
   alone : g.L.NameLink.alone l.link ≡ g.L.NameLink.alone l.initial.link;
+  stays : g.L.NameLink.stays l.initial.link l.link;
   pages : AreUnderWay l.paging (g.L.NameLink.known l.initial.link) (g.L.NameLink.known l.link) l.fn.begin l.replies.items l.next;
 }
 

@@ -1,0 +1,4 @@
+pub mod NodeLinks
+pub mod StaysLaws
+pub mod Held
+pub mod Passes
