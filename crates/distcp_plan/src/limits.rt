@@ -1,15 +1,14 @@
 //! Whether the paths of a plan's calls keep the rules of paths.
-ghost use Rattle.std.specs.Prelude.{◌≡◌, ◌∷◌, ◌++◌, [], map, None, IfOk, IfErr, OnOk, string_bytes};
+ghost use Rattle.std.specs.Prelude.{◌≡◌, ◌∷◌, [], map, None, IfOk, IfErr, OnOk};
 ghost use Rattle.std.specs.List.{flat_map};
-ghost use Rattle.std.specs.Fmt.{decimal};
-ghost use Rattle.hs_types.specs.Paths.{path_of, component_text};
+ghost use Rattle.hs_types.specs.Paths.{path_of};
 ghost use Rattle.hs_plain.specs.Plan.{text_below, out_place, bad_path};
-ghost use Rattle.distcp_plan.specs.inside.Texts.{front_of};
 ghost use Rattle.distcp_plan.specs.Limits.{first_bad, out_texts, put_texts, copy_text, plan_texts, IsPlanFault};
 
+use crate::path_texts::{out_text, text_below, tmp_text};
 use crate::planning::PlanFault;
 use hs_plain::{CopyJob, Plan, Put};
-use hs_types::{Duplicate, Name, NoMemory, Path, PathFault, PathText, RelPath};
+use hs_types::{Name, Path, PathFault, PathText};
 use std::alloc::Global;
 
 /// Whether no path of the plan's calls passes a limit; the first that does is told.
@@ -27,8 +26,7 @@ fn check_tmp(alloc: Global, root: &PathText, plan: &Plan) -> Result<(), PlanFaul
     ensures ok { OnOk result (first_bad (text_below root.now (plan.now.tmp ∷ []) ∷ []) ≡ None) }
     ensures err { IfErr result (IsPlanFault (first_bad (text_below root.now (plan.now.tmp ∷ []) ∷ []))) }
 {
-    let text = tmp_text(alloc, root, &plan.tmp)?;
-    check_text(alloc, PathText::new(text))
+    check_text(alloc, tmp_text(alloc, root, &plan.tmp)?)
 }
 
 fn check_outs(alloc: Global, root: &PathText, plan: &Plan) -> Result<(), PlanFault>
@@ -94,7 +92,7 @@ fn check_path(alloc: Global, root: &PathText, names: &[Name]) -> Result<(), Plan
     ensures ok { OnOk result (first_bad (text_below root.now names.now ∷ []) ≡ None) }
     ensures err { IfErr result (IsPlanFault (first_bad (text_below root.now names.now ∷ []))) }
 {
-    check_text(alloc, text_of(alloc, root, names)?)
+    check_text(alloc, text_below(alloc, root, names)?)
 }
 
 /// The place of an out in the temporary directory.
@@ -116,60 +114,4 @@ fn check_text(alloc: Global, text: PathText) -> Result<(), PlanFault>
             Err(PlanFault::PathLimit { path: text })
         }
     }
-}
-
-fn text_of(alloc: Global, root: &PathText, names: &[Name]) -> Result<PathText, NoMemory>
-    ensures { IfOk result (λ text. text ≡ text_below root.now names.now) }
-{
-    match names {
-        [] => root.copy(),
-        _ => Ok(PathText::new(names_text(alloc, root, names)?)),
-    }
-}
-
-fn names_text(alloc: Global, root: &PathText, names: &[Name]) -> Result<String, NoMemory>
-    ensures { IfOk result (λ text. string_bytes text ≡ front_of root.now ++ flat_map component_text names.now) }
-{
-    let mut text = front_text(alloc, root)?;
-    for name in names {
-        push_part(&mut text, name.text())?;
-    }
-    Ok(text)
-}
-
-fn tmp_text(alloc: Global, root: &PathText, tmp: &Name) -> Result<String, NoMemory>
-    ensures { IfOk result (λ text. string_bytes text ≡ text_below root.now (tmp.now ∷ [])) }
-{
-    let mut text = front_text(alloc, root)?;
-    push_part(&mut text, tmp.text())?;
-    Ok(text)
-}
-
-fn out_text(alloc: Global, root: &PathText, tmp: &Name, index: u64) -> Result<PathText, NoMemory>
-    ensures { IfOk result (λ text. text ≡ text_below root.now (tmp.now ∷ decimal index ∷ [])) }
-{
-    let number = format!(in alloc; "{index}")?;
-    let mut text = tmp_text(alloc, root, tmp)?;
-    push_part(&mut text, number.as_str())?;
-    Ok(PathText::new(text))
-}
-
-/// What stands before the first component below the root.
-fn front_text(alloc: Global, root: &PathText) -> Result<String, NoMemory>
-    ensures { IfOk result (λ text. string_bytes text ≡ front_of root.now) }
-{
-    let mut text = String::new(alloc);
-    if root.text() != "/" {
-        text.push_str(root.text())?;
-    }
-    Ok(text)
-}
-
-/// Adds a component, with its slash before it.
-fn push_part(text: &mut String, part: &str) -> Result<(), NoMemory>
-    ensures { OnOk result (string_bytes text.new ≡ string_bytes text.old ++ component_text part.now) }
-{
-    text.push('/')?;
-    text.push_str(part)?;
-    Ok(())
 }

@@ -16,7 +16,7 @@ use std::marker::Model;
 
 /// The lines of a report, with their moves by source and by id.
 #[derive(Drop)]
-pub(crate) struct Moves<'a> {
+pub struct Moves<'a> {
     lines: &'a [Line],
     leads: BTreeMap<&'a [Name], &'a [Name]>,
     ids: BTreeSet<u64>,
@@ -40,7 +40,7 @@ impl<'a> Model for Moves<'a> {
 
 impl<'a> Moves<'a> {
     /// Puts the moves of these lines in order.
-    pub(crate) fn of(alloc: Global, lines: &'a [Line]) -> Result<Moves<'a>, NoMemory>
+    pub fn of(alloc: Global, lines: &'a [Line]) -> Result<Moves<'a>, NoMemory>
         ensures { IfOk result (λ moves. moves ≡ lines.now) }
     {
         let leads = leads_of(alloc, lines)?;
@@ -49,7 +49,7 @@ impl<'a> Moves<'a> {
     }
 
     /// Whether an `R` line has this id.
-    pub(crate) fn has_id(&self, id: InodeId) -> bool
+    pub fn has_id(&self, id: InodeId) -> bool
         ensures { result ≡ renames self.now id }
     {
         self.ids.contains(&id.0)
