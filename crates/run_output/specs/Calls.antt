@@ -4,12 +4,9 @@ use Rattle.hs_types.specs.declared.ids.Side.{Side}
 use Rattle.hs_types.specs.declared.ids.Side.TheVariants.{Source, Target}
 use Rattle.hs_types.specs.declared.call.Call.{Call}
 use Rattle.hs_types.specs.declared.call.Call.TheVariants as calls
-use Rattle.hs_types.specs.declared.call.ListCursor.{ListCursor}
-use Rattle.hs_types.specs.declared.call.ReadCursor.{ReadCursor}
-use Rattle.hs_types.specs.declared.call.ReportCursor.{ReportCursor}
 use Rattle.hs_types.specs.declared.reply.Reply.{Reply}
-use Rattle.hs_types.specs.declared.reply.Reply.TheVariants as replies
 use Rattle.hs_plain.specs.Legal.{Said}
+use Rattle.hs_plain.specs.Joined.{list_cursor, read_cursor, report_cursor}
 use Rattle.script_text.specs.declared.command.Command.{Command}
 use Rattle.script_text.specs.declared.command.Command.TheVariants as commands
 use Rattle.script_text.specs.declared.command.Pages.{Pages}
@@ -25,36 +22,30 @@ first_call page (pages.File path) = calls.Read path 0 65536
 first_call page (pages.Listing path) = calls.List path page
 first_call page (pages.Report path from to) = calls.Report path from to page
 
-abbrev pub items_behind : ℕ → Option ListCursor → Option Call
-items_behind page None = None
-items_behind page (Some cursor) = Some (calls.ListNext cursor page)
-
-abbrev pub bytes_behind : Option ReadCursor → Option Call
-bytes_behind None = None
-bytes_behind (Some cursor) = Some (calls.ReadNext cursor 65536)
-
-abbrev pub lines_behind : ℕ → Option ReportCursor → Option Call
-lines_behind page None = None
-lines_behind page (Some cursor) = Some (calls.ReportNext cursor page)
+-- the call that goes on at a cursor, if there is one
+abbrev pub at_cursor : {C : Type 0} → (C → Call) → Option C → Option Call
+at_cursor goes_on None = None
+at_cursor goes_on (Some cursor) = Some (goes_on cursor)
 
 -- the call for the page behind a reply, where the reply has a cursor
-abbrev pub behind : ℕ → Reply → Option Call
-behind page (replies.Made id) = None
-behind page replies.Done = None
-behind page (replies.Bytes bytes next) = bytes_behind next
-behind page (replies.Stat id is_dir mode stamp size) = None
-behind page (replies.Page items next) = items_behind page next
-behind page (replies.SnapMade id) = None
-behind page (replies.Snaps dir list) = None
-behind page (replies.Dirs list) = None
-behind page (replies.Report lines next) = lines_behind page next
-behind page (replies.Refused why) = None
-behind page replies.NoMemory = None
+abbrev pub items_behind : ℕ → Reply → Option Call
+items_behind page reply = at_cursor (λ cursor. calls.ListNext cursor page) (list_cursor reply)
+
+abbrev pub lines_behind : ℕ → Reply → Option Call
+lines_behind page reply = at_cursor (λ cursor. calls.ReportNext cursor page) (report_cursor reply)
+
+abbrev pub bytes_behind : Reply → Option Call
+bytes_behind reply = at_cursor (λ cursor. calls.ReadNext cursor 65536) (read_cursor reply)
+
+abbrev pub behind : ℕ → Pages → Reply → Option Call
+behind page (pages.File path) reply = bytes_behind reply
+behind page (pages.Listing path) reply = items_behind page reply
+behind page (pages.Report path from to) reply = lines_behind page reply
 
 -- these calls were made and no other: the first is given, and each further one asks for the page behind the reply before
-abbrev pub AreAllPages : ℕ → Option Call → List Said → Type 0
-AreAllPages page next [] = next ≡ None
-AreAllPages page next (said ∷ more) = (next ≡ Some said.call) × AreAllPages page (behind page said.told.reply) more
+abbrev pub AreAllPages : (Reply → Option Call) → Option Call → List Said → Type 0
+AreAllPages behind_it next [] = next ≡ None
+AreAllPages behind_it next (said ∷ more) = (next ≡ Some said.call) × AreAllPages behind_it (behind_it said.told.reply) more
 
 -- just this call was made, or none where there is none
 abbrev pub IsOne : Option Call → List Said → Type 0
@@ -90,17 +81,21 @@ keep_of kept side (pages.File path) next = kept
 keep_of kept side (pages.Listing path) next = keep kept side kinds.Listing next
 keep_of kept side (pages.Report path from to) next = keep kept side kinds.Report next
 
+abbrev pub behind_kept : ℕ → PagesKind → Reply → Option Call
+behind_kept page kinds.Listing reply = items_behind page reply
+behind_kept page kinds.Report reply = lines_behind page reply
+
 -- the call behind the one reply of a line, if it has one
-abbrev pub behind_one : ℕ → List Said → Option Call
-behind_one page [] = None
-behind_one page (said ∷ more) = behind page said.told.reply
+abbrev pub behind_one : (Reply → Option Call) → List Said → Option Call
+behind_one behind_it [] = None
+behind_one behind_it (said ∷ more) = behind_it said.told.reply
 
 -- the cursors that are kept after a command
 abbrev pub kept_by : ℕ → Kept → Command → List Said → Kept
 kept_by page kept (commands.Call side call) said = kept
 kept_by page kept (commands.All side what) said = kept
-kept_by page kept (commands.First side what) said = keep_of kept side what (behind_one page said)
-kept_by page kept (commands.More side kind) said = keep kept side kind (behind_one page said)
+kept_by page kept (commands.First side what) said = keep_of kept side what (behind_one (behind page what) said)
+kept_by page kept (commands.More side kind) said = keep kept side kind (behind_one (behind_kept page kind) said)
 kept_by page kept (commands.Sync source target from to) said = kept
 
 -- ---- a command
@@ -108,7 +103,7 @@ kept_by page kept (commands.Sync source target from to) said = kept
 -- what a command's calls were and what they were told; no run has a sync yet
 abbrev pub AreOf : ℕ → Kept → Command → List Said → Type 0
 AreOf page kept (commands.Call side call) said = IsOne (Some call) said
-AreOf page kept (commands.All side what) said = AreAllPages page (Some (first_call page what)) said
+AreOf page kept (commands.All side what) said = AreAllPages (behind page what) (Some (first_call page what)) said
 AreOf page kept (commands.First side what) said = IsOne (Some (first_call page what)) said
 AreOf page kept (commands.More side kind) said = IsOne (kept side kind) said
 AreOf page kept (commands.Sync source target from to) said = ⊥

@@ -1,5 +1,5 @@
 -- A word that is no UTF-8 is no word of the language.
-use Rattle.std.proofs.Common.{◌≡◌, ℕ, ◌<◌, nat_lt, nat_le, Bool, true, false, cond, ◌&&◌, bytes_eq, codes, Ok, Err, Some, None, List, [], ◌∷◌, Result, get_or, zero, suc, refl, ap, ◌∙◌, subst, sym, arith}
+use Rattle.std.proofs.Common.{◌≡◌, ℕ, ◌<◌, nat_lt, Bool, true, false, cond, ◌&&◌, bytes_eq, codes, Ok, Err, Some, None, List, [], ◌∷◌, get_or, zero, suc, refl, ap, ◌∙◌, subst, sym, arith}
 use Rattle.std.specs.List.{list_all}
 use Rattle.std.specs.Map.{lookup}
 use Rattle.std.specs.Str.{IsUtf8}
@@ -7,16 +7,13 @@ use Rattle.std.proofs.lemmas.Str.{IsUtf8-from_ascii}
 use Rattle.std.proofs.lemmas.Slice.Eq.{bytes_eq-Decides}
 use Rattle.std.proofs.lemmas.Bool.Decides.{nat_tests}
 use Rattle.script_text.specs.declared.command_word.CommandWord.{CommandWord}
-use Rattle.script_text.specs.declared.fault.FaultKind.{FaultKind}
 use Rattle.script_text.specs.declared.fault.FaultKind.TheVariants as kinds
-use Rattle.script_text.specs.declared.line.LineMeaning.{LineMeaning}
 use Rattle.script_text.specs.declared.line.LineMeaning.TheVariants.{Skipped}
 use Rattle.script_text.specs.declared.script.Standing.{Standing}
 use Rattle.script_text.specs.Commands.{command_words, word_of, command_of}
 use Rattle.script_text.specs.Headings.{is_heading, after_heading}
 use Rattle.script_text.specs.Scripts.{line_of, full_line, heading_line, command_line}
 use Rattle.script_text.specs.Words.{is_comment}
-use Rattle.script_text.specs.Today.{most_commands_today}
 
 both_first : (a b : Bool) → (a && b) ≡ true → a ≡ true
 both_first true b e = refl
@@ -49,10 +46,6 @@ no_entry word (entry ∷ entries) all never =
 pub no_word : (word : List ℕ) → (IsUtf8 word → ⊥) → word_of word ≡ None
 no_word word never = no_entry word command_words refl never
 
-command_or_not : (b : Bool) (said : Result LineMeaning FaultKind) → said ≡ Err kinds.Command → cond b (Err kinds.Command) said ≡ Err kinds.Command
-command_or_not true said e = refl
-command_or_not false said e = e
-
 no_command : (first : List ℕ) (rest : List (List ℕ)) → (IsUtf8 first → ⊥) → command_line (command_of (first ∷ rest)) ≡ Err kinds.Command
 no_command first rest never =
     let source : bytes_eq first (codes "s") ≡ false = other first (codes "s") refl never in
@@ -67,11 +60,11 @@ no_heading first never =
     let finish : bytes_eq first (codes "finish") ≡ false = other first (codes "finish") refl never in
     rw (setup, client, finish) refl
 
-no_full_line : (standing : Standing) (count : ℕ) (first : List ℕ) (rest : List (List ℕ)) → (IsUtf8 first → ⊥) → full_line standing count first rest ≡ Err kinds.Command
-no_full_line standing count first rest never =
-    ap (λ b. cond b (heading_line (after_heading standing first rest)) (cond (nat_le most_commands_today count) (Err kinds.Command) (command_line (command_of (first ∷ rest))))) (no_heading first never)
-    ∙ command_or_not (nat_le most_commands_today count) _ (no_command first rest never)
+no_full_line : (standing : Standing) (first : List ℕ) (rest : List (List ℕ)) → (IsUtf8 first → ⊥) → full_line standing first rest ≡ Err kinds.Command
+no_full_line standing first rest never =
+    ap (λ b. cond b (heading_line (after_heading standing first rest)) (command_line (command_of (first ∷ rest)))) (no_heading first never)
+    ∙ no_command first rest never
 
-pub no_line : (standing : Standing) (count : ℕ) (first : List ℕ) (rest : List (List ℕ)) → is_comment first ≡ false → (IsUtf8 first → ⊥) → line_of standing count (first ∷ rest) ≡ Err kinds.Command
-no_line standing count first rest comment never =
-    ap (λ b. cond b (Ok Skipped) (full_line standing count first rest)) comment ∙ no_full_line standing count first rest never
+pub no_line : (standing : Standing) (first : List ℕ) (rest : List (List ℕ)) → is_comment first ≡ false → (IsUtf8 first → ⊥) → line_of standing (first ∷ rest) ≡ Err kinds.Command
+no_line standing first rest comment never =
+    ap (λ b. cond b (Ok Skipped) (full_line standing first rest)) comment ∙ no_full_line standing first rest never

@@ -108,4 +108,4 @@ next_number reading next (Ok (Said command)) is = let same : with_line reading (
 
 -- each line that is read counts
 pub numbered : (reading next : Reading) (line : List ℕ) → read_line (Ok reading) line ≡ Ok next → next.line ≡ reading.line + 1
-numbered reading next line is = next_number reading next (line_of reading.standing (length reading.lines) (words_of line)) is
+numbered reading next line is = next_number reading next (line_of reading.standing (words_of line)) is

@@ -1,11 +1,10 @@
--- The lines of a script stand in the order of their sections, and are few.
-use Rattle.std.proofs.Common.{◌≡◌, ℕ, ◌+◌, ◌≤◌, nat_le, Bool, true, false, cond, not, ◌&&◌, ◌==◌, Option, Some, None, List, [], ◌∷◌, ◌++◌, length, refl, ap, sym, ◌∙◌, subst, length-append, arith}
+-- The lines of a script stand in the order of their sections.
+use Rattle.std.proofs.Common.{◌≡◌, ℕ, ◌+◌, ◌≤◌, nat_le, Bool, true, false, cond, not, ◌&&◌, ◌==◌, Option, Some, None, List, [], ◌∷◌, ◌++◌, refl, ap, sym, ◌∙◌, subst, arith}
 use Rattle.std.specs.Prelude.{Result, Ok, Err, bytes_eq, codes}
 use Rattle.std.specs.List.{list_all, fold}
 use Rattle.std.proofs.lemmas.Bool.Decides.{nat_tests}
 use Rattle.script_text.specs.declared.command.Command.{Command}
 use Rattle.script_text.specs.declared.fault.FaultKind.{FaultKind}
-use Rattle.script_text.specs.declared.fault.FaultKind.TheVariants as kinds
 use Rattle.script_text.specs.declared.fault.ScriptFault.{ScriptFault}
 use Rattle.script_text.specs.declared.line.LineMeaning.TheVariants.{Skipped, Heading, Said}
 use Rattle.script_text.specs.declared.reader.Reading.{Reading}
@@ -18,7 +17,6 @@ use Rattle.script_text.specs.Commands.{command_of}
 use Rattle.script_text.specs.Headings.{is_finish, is_next_client, after_setup, after_number, after_client, after_finish, after_heading, is_heading}
 use Rattle.script_text.specs.Numbers.{decimal_of}
 use Rattle.script_text.specs.Scripts.{heading_line, command_line, line_of, start, said, with_line, or_fault, read_line, script_of, meaning_of}
-use Rattle.script_text.specs.Today.{most_commands_today}
 use Rattle.script_text.specs.Words.{lines_of, words_of, is_comment}
 use Rattle.script_text.specs.Order.{rank, is_among, are_ordered}
 
@@ -43,11 +41,10 @@ record IsSoFar (reading : Reading) : Type 0 where
   low : list_all (is_low (rank reading.standing.section)) reading.lines ≡ true
   among : is_among reading.standing.clients reading.standing.section ≡ true
   most : reading.standing.clients ≤ 16
-  few : length reading.lines ≤ 1000
   new : reading.standing.begun ≡ false → reading.lines ≡ []
 
 starts : IsSoFar start
-starts = record { ordered = refl; low = refl; among = refl; most = omega arith; few = omega arith; new = λ e. refl }
+starts = record { ordered = refl; low = refl; among = refl; most = omega arith; new = λ e. refl }
 
 -- ---- a command
 
@@ -69,16 +66,14 @@ least_zero n = grind (arith, nat_tests)
 le_self : (n : ℕ) → nat_le n n ≡ true
 le_self n = grind (arith, nat_tests)
 
-says : (reading : Reading) (command : Command) → IsSoFar reading → nat_le most_commands_today (length reading.lines) ≡ false → IsSoFar (with_line reading (Said command))
-says reading command kept room =
+says : (reading : Reading) (command : Command) → IsSoFar reading → IsSoFar (with_line reading (Said command))
+says reading command kept =
     let line : ScriptLine = said reading command in
-    let some : length reading.lines ≤ 999 = grind (arith, nat_tests) in
     record {
       ordered = ordered_push reading.standing.clients 0 reading.lines line (least_zero (rank reading.standing.section)) kept.among kept.low kept.ordered;
       low = all_push (is_low (rank reading.standing.section)) reading.lines line kept.low (le_self (rank reading.standing.section));
       among = kept.among;
       most = kept.most;
-      few = omega (arith, some, length-append reading.lines (line ∷ []));
       new = λ e. absurd (cc);
     }
 
@@ -117,7 +112,7 @@ setup_leads reading [] standing kept leads = by reading.standing.begun refl lead
     none_yet lines s none is =
         subst (λ (t : Standing). IsSoFar (record { line = reading.line + 1; standing = t; lines = lines })) is
         (subst (λ (ls : List ScriptLine). IsSoFar (record { line = reading.line + 1; standing = record { begun = true; section = sections.Setup; clients = 0 }; lines = ls })) (sym none)
-        (record { ordered = refl; low = refl; among = refl; most = omega arith; few = omega arith; new = λ e. refl }))
+        (record { ordered = refl; low = refl; among = refl; most = omega arith; new = λ e. refl }))
 
     by : (b : Bool) → reading.standing.begun ≡ b → cond b None (Some (record { begun = true; section = sections.Setup; clients = 0 })) ≡ Some standing → IsSoFar (with_line reading (Heading standing))
     by true begun leads = absurd (cc)
@@ -147,7 +142,6 @@ number_leads reading (Some number) standing kept leads = by (is_next_client read
           low = low_more (rank reading.standing.section) number reading.lines (omega (arith, below, so.1)) kept.low;
           among = own number (omega (arith, so.1));
           most = so.2;
-          few = kept.few;
           new = λ e. absurd (cc);
         }
       where
@@ -175,7 +169,6 @@ finish_leads reading [] standing kept leads = by (is_finish reading.standing.sec
           low = low_more (rank reading.standing.section) 17 reading.lines (omega (arith, below, kept.most)) kept.low;
           among = refl;
           most = kept.most;
-          few = kept.few;
           new = λ e. absurd (cc);
         }
 
@@ -194,43 +187,42 @@ heading_leads reading first rest standing kept leads = by (bytes_eq first (codes
 -- ---- a line
 
 skips : (reading : Reading) → IsSoFar reading → IsSoFar (with_line reading Skipped)
-skips reading kept = record { ordered = kept.ordered; low = kept.low; among = kept.among; most = kept.most; few = kept.few; new = kept.new }
+skips reading kept = record { ordered = kept.ordered; low = kept.low; among = kept.among; most = kept.most; new = kept.new }
 
 abbrev Holds : Result Reading ScriptFault → Type 0
 Holds (Ok reading) = IsSoFar reading
 Holds (Err fault) = Unit {0}
 
-line_leads : (reading : Reading) (words : List (List ℕ)) → IsSoFar reading → Holds (or_fault reading (line_of reading.standing (length reading.lines) words))
+line_leads : (reading : Reading) (words : List (List ℕ)) → IsSoFar reading → Holds (or_fault reading (line_of reading.standing words))
 line_leads reading [] kept = skips reading kept
-line_leads reading (first ∷ rest) kept = by (is_comment first) (is_heading first) (nat_le most_commands_today (length reading.lines)) refl
+line_leads reading (first ∷ rest) kept = by (is_comment first) (is_heading first)
   where
     heading : (found : Option Standing) → after_heading reading.standing first rest ≡ found → Holds (or_fault reading (heading_line found))
     heading None is = tt
     heading (Some standing) is = heading_leads reading first rest standing kept is
 
-    command : nat_le most_commands_today (length reading.lines) ≡ false → (found : Result Command FaultKind) → Holds (or_fault reading (command_line found))
-    command room (Err kind) = tt
-    command room (Ok said) = says reading said kept room
+    command : (found : Result Command FaultKind) → Holds (or_fault reading (command_line found))
+    command (Err kind) = tt
+    command (Ok said) = says reading said kept
 
-    by : (a b d : Bool) → nat_le most_commands_today (length reading.lines) ≡ d → Holds (or_fault reading (cond a (Ok Skipped) (cond b (heading_line (after_heading reading.standing first rest)) (cond d (Err kinds.Command) (command_line (command_of (first ∷ rest)))))))
-    by true b d is = skips reading kept
-    by false true d is = heading (after_heading reading.standing first rest) refl
-    by false false true is = tt
-    by false false false is = command is (command_of (first ∷ rest))
+    by : (a b : Bool) → Holds (or_fault reading (cond a (Ok Skipped) (cond b (heading_line (after_heading reading.standing first rest)) (command_line (command_of (first ∷ rest))))))
+    by true b = skips reading kept
+    by false true = heading (after_heading reading.standing first rest) refl
+    by false false = command (command_of (first ∷ rest))
 
 all_lead : (result : Result Reading ScriptFault) (lines : List (List ℕ)) → Holds result → Holds (fold read_line result lines)
 all_lead result [] holds = holds
 all_lead (Err fault) (line ∷ lines) holds = all_lead (Err fault) lines tt
-all_lead (Ok reading) (line ∷ lines) holds = all_lead (or_fault reading (line_of reading.standing (length reading.lines) (words_of line))) lines (line_leads reading (words_of line) holds)
+all_lead (Ok reading) (line ∷ lines) holds = all_lead (or_fault reading (line_of reading.standing (words_of line))) lines (line_leads reading (words_of line) holds)
 
 -- ---- a script
 
-pub script_order : (bytes : List ℕ) (script : Script) → meaning_of bytes ≡ Ok script → (are_ordered script.clients 0 script.lines ≡ true) × (length script.lines ≤ 1000) × (script.clients ≤ 16)
+pub script_order : (bytes : List ℕ) (script : Script) → meaning_of bytes ≡ Ok script → are_ordered script.clients 0 script.lines ≡ true
 script_order bytes script is = by (fold read_line (Ok start) (lines_of bytes)) (all_lead (Ok start) (lines_of bytes) starts) is
   where
-    of_reading : (reading : Reading) → IsSoFar reading → record { lines = reading.lines; clients = reading.standing.clients } ≡ script → (are_ordered script.clients 0 script.lines ≡ true) × (length script.lines ≤ 1000) × (script.clients ≤ 16)
-    of_reading reading kept same = subst (λ (s : Script). (are_ordered s.clients 0 s.lines ≡ true) × (length s.lines ≤ 1000) × (s.clients ≤ 16)) same (kept.ordered, kept.few, kept.most)
+    of_reading : (reading : Reading) → IsSoFar reading → record { lines = reading.lines; clients = reading.standing.clients } ≡ script → are_ordered script.clients 0 script.lines ≡ true
+    of_reading reading kept same = subst (λ (s : Script). are_ordered s.clients 0 s.lines ≡ true) same kept.ordered
 
-    by : (result : Result Reading ScriptFault) → Holds result → script_of result ≡ Ok script → (are_ordered script.clients 0 script.lines ≡ true) × (length script.lines ≤ 1000) × (script.clients ≤ 16)
+    by : (result : Result Reading ScriptFault) → Holds result → script_of result ≡ Ok script → are_ordered script.clients 0 script.lines ≡ true
     by (Err fault) holds is = absurd (cc)
     by (Ok reading) holds is = of_reading reading holds (cc)

@@ -1,5 +1,5 @@
--- What is read is read today: commands of today's words, and at most 16 clients.
-use Rattle.std.proofs.Common.{◌≡◌, ℕ, ◌≤◌, ◌+◌, nat_le, Bool, true, false, cond, not, ◌&&◌, ◌==◌, bytes_eq, codes, Option, Some, None, Result, Ok, Err, List, [], ◌∷◌, length, refl, ap, ◌∙◌, subst, arith}
+-- What is read is read today: no sync, and at most 16 clients.
+use Rattle.std.proofs.Common.{◌≡◌, ℕ, ◌≤◌, ◌+◌, nat_le, Bool, true, false, cond, not, ◌&&◌, ◌==◌, bytes_eq, codes, Option, Some, None, Result, Ok, Err, List, [], ◌∷◌, refl, ap, ◌∙◌, subst, arith}
 use Rattle.std.specs.List.{list_all, fold}
 use Rattle.std.proofs.lemmas.List.Folds.{list_all-append}
 use Rattle.std.proofs.lemmas.Bool.Decides.{nat_tests}
@@ -19,7 +19,7 @@ use Rattle.script_text.specs.Commands.{is_text, are_texts, fits_chunk, bare_comm
 use Rattle.script_text.specs.Headings.{is_finish, is_heading, is_next_client, after_setup, after_number, after_client, after_finish, after_heading}
 use Rattle.script_text.specs.Numbers.{count_of, byte_of, mode_of, decimal_of}
 use Rattle.script_text.specs.Scripts.{heading_line, command_line, line_of, start, said, or_fault, read_line, script_of, meaning_of}
-use Rattle.script_text.specs.Today.{is_read_today, is_sync_read_today, is_command_today, is_line_today, most_commands_today}
+use Rattle.script_text.specs.Today.{is_sync_read_today, is_command_today, is_line_today}
 use Rattle.script_text.specs.Words.{is_comment, lines_of, words_of}
 
 when : {A : Type 0} (P : A → Type 0) (b : Bool) (x y : A) → (b ≡ true → P x) → P y → P (cond b x y)
@@ -51,120 +51,120 @@ fill_today side path None byte = tt
 fill_today side path (Some count) None = tt
 fill_today side path (Some count) (Some byte) = when IsToday (is_text path) _ _ (λ is. refl) tt
 
-bare_today : (side : Side) (word : CommandWord) → is_read_today word ≡ true → IsToday (bare_command side word)
-bare_today side spelled.Mkdir is = tt
-bare_today side spelled.Create is = tt
-bare_today side spelled.CreateOver is = tt
-bare_today side spelled.Append is = tt
-bare_today side spelled.Fill is = tt
-bare_today side spelled.Rm is = tt
-bare_today side spelled.Rmr is = tt
-bare_today side spelled.Mv is = tt
-bare_today side spelled.Chmod is = tt
-bare_today side spelled.Allow is = tt
-bare_today side spelled.Disallow is = tt
-bare_today side spelled.Snap is = tt
-bare_today side spelled.SnapDel is = tt
-bare_today side spelled.SnapRen is = tt
-bare_today side spelled.Stat is = tt
-bare_today side spelled.Cat is = tt
-bare_today side spelled.Ls is = tt
-bare_today side spelled.Snaps is = tt
-bare_today side spelled.Dirs is = refl
-bare_today side spelled.Diff is = absurd (cc)
-bare_today side spelled.First is = absurd (cc)
-bare_today side spelled.More is = absurd (cc)
-bare_today side spelled.DFirst is = absurd (cc)
-bare_today side spelled.DMore is = absurd (cc)
+bare_today : (side : Side) (word : CommandWord) → IsToday (bare_command side word)
+bare_today side spelled.Mkdir = tt
+bare_today side spelled.Create = tt
+bare_today side spelled.CreateOver = tt
+bare_today side spelled.Append = tt
+bare_today side spelled.Fill = tt
+bare_today side spelled.Rm = tt
+bare_today side spelled.Rmr = tt
+bare_today side spelled.Mv = tt
+bare_today side spelled.Chmod = tt
+bare_today side spelled.Allow = tt
+bare_today side spelled.Disallow = tt
+bare_today side spelled.Snap = tt
+bare_today side spelled.SnapDel = tt
+bare_today side spelled.SnapRen = tt
+bare_today side spelled.Stat = tt
+bare_today side spelled.Cat = tt
+bare_today side spelled.Ls = tt
+bare_today side spelled.Snaps = tt
+bare_today side spelled.Dirs = refl
+bare_today side spelled.Diff = tt
+bare_today side spelled.First = tt
+bare_today side spelled.More = refl
+bare_today side spelled.DFirst = tt
+bare_today side spelled.DMore = refl
 
-path_today : (side : Side) (word : CommandWord) (path : List ℕ) → is_read_today word ≡ true → IsToday (path_command side word path)
-path_today side spelled.Mkdir path is = when IsToday (is_text path) _ _ (λ is. refl) tt
-path_today side spelled.Create path is = when IsToday (is_text path) _ _ (λ is. refl) tt
-path_today side spelled.CreateOver path is = when IsToday (is_text path) _ _ (λ is. refl) tt
-path_today side spelled.Append path is = tt
-path_today side spelled.Fill path is = tt
-path_today side spelled.Rm path is = when IsToday (is_text path) _ _ (λ is. refl) tt
-path_today side spelled.Rmr path is = when IsToday (is_text path) _ _ (λ is. refl) tt
-path_today side spelled.Mv path is = tt
-path_today side spelled.Chmod path is = tt
-path_today side spelled.Allow path is = when IsToday (is_text path) _ _ (λ is. refl) tt
-path_today side spelled.Disallow path is = when IsToday (is_text path) _ _ (λ is. refl) tt
-path_today side spelled.Snap path is = tt
-path_today side spelled.SnapDel path is = tt
-path_today side spelled.SnapRen path is = tt
-path_today side spelled.Stat path is = when IsToday (is_text path) _ _ (λ is. refl) tt
-path_today side spelled.Cat path is = when IsToday (is_text path) _ _ (λ is. refl) tt
-path_today side spelled.Ls path is = when IsToday (is_text path) _ _ (λ is. refl) tt
-path_today side spelled.Snaps path is = when IsToday (is_text path) _ _ (λ is. refl) tt
-path_today side spelled.Dirs path is = tt
-path_today side spelled.Diff path is = absurd (cc)
-path_today side spelled.First path is = absurd (cc)
-path_today side spelled.More path is = absurd (cc)
-path_today side spelled.DFirst path is = absurd (cc)
-path_today side spelled.DMore path is = absurd (cc)
+path_today : (side : Side) (word : CommandWord) (path : List ℕ) → IsToday (path_command side word path)
+path_today side spelled.Mkdir path = when IsToday (is_text path) _ _ (λ is. refl) tt
+path_today side spelled.Create path = when IsToday (is_text path) _ _ (λ is. refl) tt
+path_today side spelled.CreateOver path = when IsToday (is_text path) _ _ (λ is. refl) tt
+path_today side spelled.Append path = tt
+path_today side spelled.Fill path = tt
+path_today side spelled.Rm path = when IsToday (is_text path) _ _ (λ is. refl) tt
+path_today side spelled.Rmr path = when IsToday (is_text path) _ _ (λ is. refl) tt
+path_today side spelled.Mv path = tt
+path_today side spelled.Chmod path = tt
+path_today side spelled.Allow path = when IsToday (is_text path) _ _ (λ is. refl) tt
+path_today side spelled.Disallow path = when IsToday (is_text path) _ _ (λ is. refl) tt
+path_today side spelled.Snap path = tt
+path_today side spelled.SnapDel path = tt
+path_today side spelled.SnapRen path = tt
+path_today side spelled.Stat path = when IsToday (is_text path) _ _ (λ is. refl) tt
+path_today side spelled.Cat path = when IsToday (is_text path) _ _ (λ is. refl) tt
+path_today side spelled.Ls path = when IsToday (is_text path) _ _ (λ is. refl) tt
+path_today side spelled.Snaps path = when IsToday (is_text path) _ _ (λ is. refl) tt
+path_today side spelled.Dirs path = tt
+path_today side spelled.Diff path = tt
+path_today side spelled.First path = when IsToday (is_text path) _ _ (λ is. refl) tt
+path_today side spelled.More path = tt
+path_today side spelled.DFirst path = tt
+path_today side spelled.DMore path = tt
 
-pair_today : (side : Side) (word : CommandWord) (first second : List ℕ) → is_read_today word ≡ true → IsToday (pair_command side word first second)
-pair_today side spelled.Mkdir first second is = tt
-pair_today side spelled.Create first second is = tt
-pair_today side spelled.CreateOver first second is = tt
-pair_today side spelled.Append first second is = append_today side first second
-pair_today side spelled.Fill first second is = tt
-pair_today side spelled.Rm first second is = tt
-pair_today side spelled.Rmr first second is = tt
-pair_today side spelled.Mv first second is = when IsToday (are_texts (first ∷ second ∷ [])) _ _ (λ is. refl) tt
-pair_today side spelled.Chmod first second is = mode_today side first (mode_of second)
-pair_today side spelled.Allow first second is = tt
-pair_today side spelled.Disallow first second is = tt
-pair_today side spelled.Snap first second is = when IsToday (are_texts (first ∷ second ∷ [])) _ _ (λ is. refl) tt
-pair_today side spelled.SnapDel first second is = when IsToday (are_texts (first ∷ second ∷ [])) _ _ (λ is. refl) tt
-pair_today side spelled.SnapRen first second is = tt
-pair_today side spelled.Stat first second is = tt
-pair_today side spelled.Cat first second is = tt
-pair_today side spelled.Ls first second is = tt
-pair_today side spelled.Snaps first second is = tt
-pair_today side spelled.Dirs first second is = tt
-pair_today side spelled.Diff first second is = absurd (cc)
-pair_today side spelled.First first second is = absurd (cc)
-pair_today side spelled.More first second is = absurd (cc)
-pair_today side spelled.DFirst first second is = absurd (cc)
-pair_today side spelled.DMore first second is = absurd (cc)
+pair_today : (side : Side) (word : CommandWord) (first second : List ℕ) → IsToday (pair_command side word first second)
+pair_today side spelled.Mkdir first second = tt
+pair_today side spelled.Create first second = tt
+pair_today side spelled.CreateOver first second = tt
+pair_today side spelled.Append first second = append_today side first second
+pair_today side spelled.Fill first second = tt
+pair_today side spelled.Rm first second = tt
+pair_today side spelled.Rmr first second = tt
+pair_today side spelled.Mv first second = when IsToday (are_texts (first ∷ second ∷ [])) _ _ (λ is. refl) tt
+pair_today side spelled.Chmod first second = mode_today side first (mode_of second)
+pair_today side spelled.Allow first second = tt
+pair_today side spelled.Disallow first second = tt
+pair_today side spelled.Snap first second = when IsToday (are_texts (first ∷ second ∷ [])) _ _ (λ is. refl) tt
+pair_today side spelled.SnapDel first second = when IsToday (are_texts (first ∷ second ∷ [])) _ _ (λ is. refl) tt
+pair_today side spelled.SnapRen first second = tt
+pair_today side spelled.Stat first second = tt
+pair_today side spelled.Cat first second = tt
+pair_today side spelled.Ls first second = tt
+pair_today side spelled.Snaps first second = tt
+pair_today side spelled.Dirs first second = tt
+pair_today side spelled.Diff first second = tt
+pair_today side spelled.First first second = tt
+pair_today side spelled.More first second = tt
+pair_today side spelled.DFirst first second = tt
+pair_today side spelled.DMore first second = tt
 
-triple_today : (side : Side) (word : CommandWord) (first second third : List ℕ) → is_read_today word ≡ true → IsToday (triple_command side word first second third)
-triple_today side spelled.Mkdir first second third is = tt
-triple_today side spelled.Create first second third is = tt
-triple_today side spelled.CreateOver first second third is = tt
-triple_today side spelled.Append first second third is = tt
-triple_today side spelled.Fill first second third is = fill_today side first (count_of second) (byte_of third)
-triple_today side spelled.Rm first second third is = tt
-triple_today side spelled.Rmr first second third is = tt
-triple_today side spelled.Mv first second third is = tt
-triple_today side spelled.Chmod first second third is = tt
-triple_today side spelled.Allow first second third is = tt
-triple_today side spelled.Disallow first second third is = tt
-triple_today side spelled.Snap first second third is = tt
-triple_today side spelled.SnapDel first second third is = tt
-triple_today side spelled.SnapRen first second third is = when IsToday (are_texts (first ∷ second ∷ third ∷ [])) _ _ (λ is. refl) tt
-triple_today side spelled.Stat first second third is = tt
-triple_today side spelled.Cat first second third is = tt
-triple_today side spelled.Ls first second third is = tt
-triple_today side spelled.Snaps first second third is = tt
-triple_today side spelled.Dirs first second third is = tt
-triple_today side spelled.Diff first second third is = absurd (cc)
-triple_today side spelled.First first second third is = absurd (cc)
-triple_today side spelled.More first second third is = absurd (cc)
-triple_today side spelled.DFirst first second third is = absurd (cc)
-triple_today side spelled.DMore first second third is = absurd (cc)
+triple_today : (side : Side) (word : CommandWord) (first second third : List ℕ) → IsToday (triple_command side word first second third)
+triple_today side spelled.Mkdir first second third = tt
+triple_today side spelled.Create first second third = tt
+triple_today side spelled.CreateOver first second third = tt
+triple_today side spelled.Append first second third = tt
+triple_today side spelled.Fill first second third = fill_today side first (count_of second) (byte_of third)
+triple_today side spelled.Rm first second third = tt
+triple_today side spelled.Rmr first second third = tt
+triple_today side spelled.Mv first second third = tt
+triple_today side spelled.Chmod first second third = tt
+triple_today side spelled.Allow first second third = tt
+triple_today side spelled.Disallow first second third = tt
+triple_today side spelled.Snap first second third = tt
+triple_today side spelled.SnapDel first second third = tt
+triple_today side spelled.SnapRen first second third = when IsToday (are_texts (first ∷ second ∷ third ∷ [])) _ _ (λ is. refl) tt
+triple_today side spelled.Stat first second third = tt
+triple_today side spelled.Cat first second third = tt
+triple_today side spelled.Ls first second third = tt
+triple_today side spelled.Snaps first second third = tt
+triple_today side spelled.Dirs first second third = tt
+triple_today side spelled.Diff first second third = when IsToday (are_texts (first ∷ second ∷ third ∷ [])) _ _ (λ is. refl) tt
+triple_today side spelled.First first second third = tt
+triple_today side spelled.More first second third = tt
+triple_today side spelled.DFirst first second third = when IsToday (are_texts (first ∷ second ∷ third ∷ [])) _ _ (λ is. refl) tt
+triple_today side spelled.DMore first second third = tt
 
-fitted_today : (side : Side) (word : CommandWord) (words : List (List ℕ)) → is_read_today word ≡ true → IsToday (fitted_command side word words)
-fitted_today side word [] is = bare_today side word is
-fitted_today side word (path ∷ []) is = path_today side word path is
-fitted_today side word (first ∷ second ∷ []) is = pair_today side word first second is
-fitted_today side word (first ∷ second ∷ third ∷ []) is = triple_today side word first second third is
-fitted_today side word (first ∷ second ∷ third ∷ fourth ∷ words) is = tt
+fitted_today : (side : Side) (word : CommandWord) (words : List (List ℕ)) → IsToday (fitted_command side word words)
+fitted_today side word [] = bare_today side word
+fitted_today side word (path ∷ []) = path_today side word path
+fitted_today side word (first ∷ second ∷ []) = pair_today side word first second
+fitted_today side word (first ∷ second ∷ third ∷ []) = triple_today side word first second third
+fitted_today side word (first ∷ second ∷ third ∷ fourth ∷ words) = tt
 
 known_today : (side : Side) (word : Option CommandWord) (words : List (List ℕ)) → IsToday (known_command side word words)
 known_today side None words = tt
-known_today side (Some word) words = when IsToday (is_read_today word) _ _ (λ is. fitted_today side word words is) tt
+known_today side (Some word) words = fitted_today side word words
 
 side_today : (side : Side) (words : List (List ℕ)) → IsToday (side_command side words)
 side_today side [] = tt
@@ -223,12 +223,12 @@ command_fine : (command : Result Command FaultKind) → IsToday command → IsFi
 command_fine (Err kind) today = tt
 command_fine (Ok command) today = today
 
-line_fine : (standing : Standing) (count : ℕ) (words : List (List ℕ)) → standing.clients ≤ 16 → IsFine (line_of standing count words)
-line_fine standing count [] few = tt
-line_fine standing count (first ∷ rest) few =
+line_fine : (standing : Standing) (words : List (List ℕ)) → standing.clients ≤ 16 → IsFine (line_of standing words)
+line_fine standing [] few = tt
+line_fine standing (first ∷ rest) few =
     when IsFine (is_comment first) (Ok Skipped) _ (λ is. tt)
     (when IsFine (is_heading first) _ _ (λ is. heading_fine (after_heading standing first rest) (heading_few standing first rest few))
-    (when IsFine (nat_le most_commands_today count) (Err _) _ (λ is. tt) (command_fine (command_of (first ∷ rest)) (command_today (first ∷ rest)))))
+    (command_fine (command_of (first ∷ rest)) (command_today (first ∷ rest))))
 
 -- ---- texts
 
@@ -245,7 +245,7 @@ step_today reading (Ok (Said command)) so_far fine =
 
 line_today : (so_far : Result Reading ScriptFault) (line : List ℕ) → AreToday so_far → AreToday (read_line so_far line)
 line_today (Err fault) line are = tt
-line_today (Ok reading) line are = step_today reading (line_of reading.standing (length reading.lines) (words_of line)) are (line_fine reading.standing (length reading.lines) (words_of line) are.1)
+line_today (Ok reading) line are = step_today reading (line_of reading.standing (words_of line)) are (line_fine reading.standing (words_of line) are.1)
 
 all_today : (lines : List (List ℕ)) (so_far : Result Reading ScriptFault) → AreToday so_far → AreToday (fold read_line so_far lines)
 all_today [] so_far are = are

@@ -18,7 +18,7 @@ use Rattle.script_text.specs.declared.command_word.CommandWord.TheVariants as sp
 use Rattle.script_text.specs.declared.fault.FaultKind.{FaultKind}
 use Rattle.script_text.specs.declared.fault.FaultKind.TheVariants as kinds
 use Rattle.script_text.specs.Numbers.{count_of, byte_of, mode_of}
-use Rattle.script_text.specs.Today.{is_read_today, is_sync_read_today}
+use Rattle.script_text.specs.Today.{is_sync_read_today}
 
 -- ---- the command words
 
@@ -130,7 +130,7 @@ fitted_command side word words = Err kinds.Words
 
 abbrev pub known_command : Side → Option CommandWord → List (List ℕ) → Result Command FaultKind
 known_command side None words = Err kinds.Command
-known_command side (Some word) words = if is_read_today word then fitted_command side word words else Err kinds.Command
+known_command side (Some word) words = fitted_command side word words
 
 abbrev pub side_command : Side → List (List ℕ) → Result Command FaultKind
 side_command side [] = Err kinds.Command

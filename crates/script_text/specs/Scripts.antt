@@ -1,5 +1,5 @@
 -- What a text means as a script: its commands, or its first bad line.
-use Rattle.std.specs.Prelude.{◌≡◌, ℕ, ◌+◌, nat_le, if◌then◌else◌, List, [], ◌∷◌, ◌++◌, length, Option, Some, None, Result, Ok, Err}
+use Rattle.std.specs.Prelude.{◌≡◌, ℕ, ◌+◌, if◌then◌else◌, List, [], ◌∷◌, ◌++◌, Option, Some, None, Result, Ok, Err}
 use Rattle.std.specs.List.{fold}
 use Rattle.script_text.specs.declared.command.Command.{Command}
 use Rattle.script_text.specs.declared.fault.FaultKind.{FaultKind}
@@ -16,7 +16,6 @@ use Rattle.script_text.specs.declared.line.LineMeaning.TheVariants.{Skipped, Hea
 use Rattle.script_text.specs.Words.{lines_of, words_of, is_comment}
 use Rattle.script_text.specs.Headings.{at_the_start, after_command, is_heading, after_heading}
 use Rattle.script_text.specs.Commands.{command_of}
-use Rattle.script_text.specs.Today.{most_commands_today}
 
 -- ---- one line
 
@@ -28,17 +27,16 @@ abbrev pub command_line : Result Command FaultKind → Result LineMeaning FaultK
 command_line (Err kind) = Err kind
 command_line (Ok command) = Ok (Said command)
 
--- a heading, or else a command, of which there may be so many today
-abbrev pub full_line : Standing → ℕ → List ℕ → List (List ℕ) → Result LineMeaning FaultKind
-full_line standing count first rest =
+-- a heading, or else a command
+abbrev pub full_line : Standing → List ℕ → List (List ℕ) → Result LineMeaning FaultKind
+full_line standing first rest =
     if is_heading first then heading_line (after_heading standing first rest)
-    else if nat_le most_commands_today count then Err kinds.Command
     else command_line (command_of (first ∷ rest))
 
--- what the words of a line mean where it stands, after so many commands
-abbrev pub line_of : Standing → ℕ → List (List ℕ) → Result LineMeaning FaultKind
-line_of standing count [] = Ok Skipped
-line_of standing count (first ∷ rest) = if is_comment first then Ok Skipped else full_line standing count first rest
+-- what the words of a line mean where it stands
+abbrev pub line_of : Standing → List (List ℕ) → Result LineMeaning FaultKind
+line_of standing [] = Ok Skipped
+line_of standing (first ∷ rest) = if is_comment first then Ok Skipped else full_line standing first rest
 
 -- ---- line after line
 
@@ -65,7 +63,7 @@ or_fault reading (Ok meaning) = Ok (with_line reading meaning)
 -- after the first bad line nothing counts
 abbrev pub read_line : Result Reading ScriptFault → List ℕ → Result Reading ScriptFault
 read_line (Err fault) line = Err fault
-read_line (Ok reading) line = or_fault reading (line_of reading.standing (length reading.lines) (words_of line))
+read_line (Ok reading) line = or_fault reading (line_of reading.standing (words_of line))
 
 -- ---- a text
 

@@ -26,9 +26,6 @@ pub(crate) enum LineMeaning {
     Said(Command),
 }
 
-/// How many commands a script has at most, today.
-const MOST_COMMANDS: usize = 1000;
-
 /// Whether `sync` is read, today.
 const READS_SYNC: bool = false;
 
@@ -87,16 +84,13 @@ fn heading_line(standing: Standing, first: &str, rest: &[&[u8]]) -> Result<LineM
 fn full_line(
     alloc: Global,
     standing: Standing,
-    count: usize,
     first: &str,
     rest: &[&[u8]],
 ) -> Result<LineMeaning, LineFault>
-    ensures { Gives (plain_full_line standing count first.now (map (λ word. word.now) rest.now)) result }
+    ensures { Gives (plain_full_line standing first.now (map (λ word. word.now) rest.now)) result }
 {
     if is_heading(first) {
         heading_line(standing, first, rest)
-    } else if count >= MOST_COMMANDS {
-        Err(LineFault::Bad(FaultKind::Command))
     } else {
         Ok(LineMeaning::Said(command_of(alloc, first, rest)?))
     }
@@ -112,17 +106,16 @@ fn is_comment(first: &[u8]) -> bool
 fn line_of_words(
     alloc: Global,
     standing: Standing,
-    count: usize,
     first: &[u8],
     rest: &[&[u8]],
 ) -> Result<LineMeaning, LineFault>
-    ensures { Gives (plain_line_of standing count (first.now ∷ map (λ word. word.now) rest.now)) result }
+    ensures { Gives (plain_line_of standing (first.now ∷ map (λ word. word.now) rest.now)) result }
 {
     if is_comment(first) {
         return Ok(LineMeaning::Skipped);
     }
     match str::from_utf8(first) {
-        Ok(first) => full_line(alloc, standing, count, first, rest),
+        Ok(first) => full_line(alloc, standing, first, rest),
         Err(_) => Err(LineFault::Bad(FaultKind::Command)),
     }
 }
@@ -131,26 +124,24 @@ fn line_of_words(
 fn meaning_of_words(
     alloc: Global,
     standing: Standing,
-    count: usize,
     words: &[&[u8]],
 ) -> Result<LineMeaning, LineFault>
-    ensures { Gives (plain_line_of standing count (map (λ word. word.now) words.now)) result }
+    ensures { Gives (plain_line_of standing (map (λ word. word.now) words.now)) result }
 {
     match words {
         [] => Ok(LineMeaning::Skipped),
-        [first, rest @ ..] => line_of_words(alloc, standing, count, first, rest),
+        [first, rest @ ..] => line_of_words(alloc, standing, first, rest),
     }
 }
 
-/// What a line means where it stands, after so many commands.
+/// What a line means where it stands.
 pub(crate) fn line_of(
     alloc: Global,
     standing: Standing,
-    count: usize,
     line: &[u8],
 ) -> Result<LineMeaning, LineFault>
-    ensures { Gives (plain_line_of standing count (plain_words_of line.now)) result }
+    ensures { Gives (plain_line_of standing (plain_words_of line.now)) result }
 {
     let words = first_words(alloc, line)?;
-    meaning_of_words(alloc, standing, count, words.as_slice())
+    meaning_of_words(alloc, standing, words.as_slice())
 }

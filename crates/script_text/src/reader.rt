@@ -61,7 +61,7 @@ impl Reading {
         ensures ok { OnOk result (plain_read_line (Ok self.old) line.now ≡ Ok self.new) }
         ensures bad { IfErr result (IsFaultOf (plain_read_line (Ok self.old) line.now)) }
     {
-        match line_of(alloc, self.standing, self.lines.len(), line) {
+        match line_of(alloc, self.standing, line) {
             Ok(meaning) => Ok(self.add(meaning)?),
             Err(LineFault::Bad(kind)) => Err(ReadScriptFault::Bad(ScriptFault {
                 line: self.line,
@@ -114,7 +114,6 @@ pub fn read(alloc: Global, bytes: &[u8]) -> Result<Script, ReadScriptFault>
     ensures bad { IfErr result (IsFaultOf (meaning_of bytes.now)) }
     ensures today { IfOk result (λ script. list_all is_line_today script.lines ≡ true) }
     ensures clients { IfOk result (λ script. script.clients ≤ 16) }
-    ensures few { IfOk result (λ script. length script.lines ≤ 1000) }
     ensures order { IfOk result (λ script. are_ordered script.clients 0 script.lines ≡ true) }
 {
     let mut reading = Reading::start(alloc);

@@ -4,7 +4,6 @@ ghost use Rattle.script_text.specs.declared.command.Command.TheVariants as comma
 ghost use Rattle.script_text.specs.declared.fault.FaultKind.TheVariants as kinds;
 ghost use Rattle.script_text.specs.Numbers.{count_of as plain_count_of, byte_of as plain_byte_of, mode_of as plain_mode_of};
 ghost use Rattle.script_text.specs.Commands.{decoded, are_texts, point_of as plain_point_of, bare_command as plain_bare_command, path_command as plain_path_command, append_command as plain_append_command, with_mode, with_fill, pair_command as plain_pair_command, triple_command as plain_triple_command, fitted_command as plain_fitted_command, side_command as plain_side_command};
-ghost use Rattle.script_text.specs.Today.{is_read_today as plain_is_read_today};
 ghost use Rattle.script_text.specs.Faults.{Gives, IsLineFault};
 
 use crate::command::{Command, Pages, PagesKind};
@@ -14,34 +13,6 @@ use crate::numbers::{byte_of, count_of, mode_of};
 use crate::words::{data_of, path_of, point_of, three_texts, two_texts};
 use hs_types::{Call, Chunk, NameText, PathText, Side};
 use std::alloc::Global;
-
-/// The words that are read today.
-fn is_read_today(word: CommandWord) -> bool
-    ensures { result ≡ plain_is_read_today word }
-{
-    matches!(
-        word,
-        CommandWord::Mkdir
-            | CommandWord::Create
-            | CommandWord::CreateOver
-            | CommandWord::Append
-            | CommandWord::Fill
-            | CommandWord::Rm
-            | CommandWord::Rmr
-            | CommandWord::Mv
-            | CommandWord::Chmod
-            | CommandWord::Allow
-            | CommandWord::Disallow
-            | CommandWord::Snap
-            | CommandWord::SnapDel
-            | CommandWord::SnapRen
-            | CommandWord::Stat
-            | CommandWord::Cat
-            | CommandWord::Ls
-            | CommandWord::Snaps
-            | CommandWord::Dirs
-    )
-}
 
 /// A command with no word behind it.
 fn bare_command(side: Side, word: CommandWord) -> Result<Command, LineFault>
@@ -303,8 +274,8 @@ pub(crate) fn side_command(alloc: Global, side: Side, words: &[&[u8]]) -> Result
     match words {
         [] => Err(LineFault::Bad(FaultKind::Command)),
         [word, words @ ..] => match word_of(word) {
-            Some(word) if is_read_today(word) => fitted_command(alloc, side, word, words),
-            _ => Err(LineFault::Bad(FaultKind::Command)),
+            Some(word) => fitted_command(alloc, side, word, words),
+            None => Err(LineFault::Bad(FaultKind::Command)),
         },
     }
 }

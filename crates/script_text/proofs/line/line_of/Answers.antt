@@ -12,5 +12,5 @@ pub returns : goal.returns
 returns c =
     let said = rw c.as_slice.ensures.value at c.meaning_of_words.ensures in
     subst (λ (meaning : Result LineMeaning FaultKind). Gives meaning c.meaning_of_words.result)
-    (ap (λ (words : List (List ℕ)). line_of c.args.standing c.args.count words) c.in_ok-words.ensures ∙ few_words c.args.standing c.args.count (words_of c.args.line.now))
+    (ap (λ (words : List (List ℕ)). line_of c.args.standing words) c.in_ok-words.ensures ∙ few_words c.args.standing (words_of c.args.line.now))
     said

@@ -34,12 +34,7 @@ returns-clause-clients c =
     let script : meaning_of c.args.bytes.now ≡ Ok c.into_script.result = first_of (search rules, grind (arith, common_steps)) in
     (script_today c.args.bytes.now c.into_script.result script).1
 
-pub returns-clause-few : goal.returns-clause-few
-returns-clause-few c =
-    let script : meaning_of c.args.bytes.now ≡ Ok c.into_script.result = first_of (search rules, grind (arith, common_steps)) in
-    (script_order c.args.bytes.now c.into_script.result script).1
-
 pub returns-clause-order : goal.returns-clause-order
 returns-clause-order c =
     let script : meaning_of c.args.bytes.now ≡ Ok c.into_script.result = first_of (search rules, grind (arith, common_steps)) in
-    (script_order c.args.bytes.now c.into_script.result script).0
+    script_order c.args.bytes.now c.into_script.result script
