@@ -2,7 +2,7 @@
 use Rattle.std.proofs.Common.{◌≡◌, ℕ, ◌≤◌, true, List, ◌++◌, length, Option, None, Some, Result, Ok, Err, refl, ap, sym, subst, ◌∙◌, append-nil, length-append, arith}
 use Rattle.hs_types.specs.Faults.{Rose}
 use Rattle.hs_io.specs.Bytes.{Gives, IsEnded}
-use Rattle.namenode_write.specs.Counted.{RisesAtMost}
+use Rattle.namenode_write.specs.FaultCounts.{RisesAtMost}
 use Rattle.script_text.specs.declared.script.Script.{Script}
 use Rattle.script_text.specs.declared.fault.FaultKind.{FaultKind}
 use Rattle.script_text.specs.declared.fault.ScriptFault.{ScriptFault}

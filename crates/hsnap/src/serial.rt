@@ -4,7 +4,7 @@ ghost use Rattle.std.specs.List.{list_all};
 ghost use Rattle.hs_io.specs.Bytes.{Takes, TakesSome, GivesWithin, GivesPast};
 ghost use Rattle.hs_types.specs.Faults.{Rose};
 ghost use Rattle.namenode_write.specs.Faulted.{fault_count};
-ghost use Rattle.namenode_write.specs.Counted.{RisesAtMost};
+ghost use Rattle.namenode_write.specs.FaultCounts.{RisesAtMost};
 ghost use Rattle.script_text.specs.Scripts.{meaning_of};
 ghost use Rattle.script_text.specs.Today.{is_line_today};
 ghost use Rattle.script_text.specs.declared.fault.FaultKind.{FaultKind};
@@ -70,7 +70,6 @@ fn read_script<I: Source>(alloc: Global, input: &mut I) -> Result<Script, Status
     ensures script { IfOk result (IsScriptRead (I.rest input.old) (I.rest input.new)) }
     ensures today { IfOk result (λ script. list_all is_line_today script.lines ≡ true) }
     ensures few_clients { IfOk result (λ script. script.clients ≤ 16) }
-    ensures few_lines { IfOk result (λ script. length script.lines ≤ 1000) }
     ensures order { IfOk result (λ script. are_ordered script.clients 0 script.lines ≡ true) }
     ensures cause { IfErr result (IsReadCause (I.rest input.old) (I.rest input.new) (I.faults input.old) (I.faults input.new)) }
     ensures count { I.faults input.old ≤ I.faults input.new }
@@ -116,7 +115,6 @@ fn run_and_write<O: Sink, B: BlockStore>(
 ) -> Ran
     requires today { list_all is_line_today script.lines ≡ true }
     requires few_clients { script.clients ≤ 16 }
-    requires few_lines { length script.lines ≤ 1000 }
     requires order { are_ordered script.clients 0 script.lines ≡ true }
     requires source_empty { IfSome (B.blocks source_blocks) (λ map. map ≡ []) }
     requires target_empty { IfSome (B.blocks target_blocks) (λ map. map ≡ []) }

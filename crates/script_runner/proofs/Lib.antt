@@ -1,13 +1,10 @@
-pub mod Asked
+pub mod Asking
 pub mod Both
 pub mod Clients
-pub mod Ends
-pub mod Faultless
 pub mod Lines
 pub mod Linked
+pub mod Made
+pub mod NodeRuns
 pub mod Order
-pub mod PageCalls
-pub mod Served
-pub mod Small
 pub mod TurnedRuns
 pub mod WholeRuns

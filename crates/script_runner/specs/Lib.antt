@@ -1,4 +1,6 @@
+pub mod Commands
 pub mod InTurn
+pub mod Keeping
 pub mod Links
-pub mod Pages
+pub mod Nodes
 pub mod Sections

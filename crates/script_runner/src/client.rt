@@ -1,96 +1,118 @@
-//! A caller of both namenodes, and its calls.
-ghost use Rattle.std.specs.Prelude.{◌≡◌, ◌++◌, ℕ, Bool, true, false, length, is_some};
-ghost use Rattle.std.specs.Option.{option_to_list};
-ghost use Rattle.hs_types.specs.Limits.{journal_limit};
-ghost use Rattle.hs_types.specs.declared.ids.CallerId.{CallerId};
-ghost use Rattle.hs_plain.specs.Answer.{is_shared};
-ghost use Rattle.hs_plain.specs.Served.{is_report};
-ghost use Rattle.hs_plain.specs.Legal.{IsLegalCall, entry_left, leaves_entry};
-ghost use Rattle.namenode_write.specs.Counted.{AreCounted};
-ghost use Rattle.script_runner.specs.InTurn.{IsNext};
+//! A caller of both namenodes, and what it keeps between its commands.
+ghost use Rattle.std.specs.Prelude.{◌≡◌, IfNone, IfOk, OnOk};
+ghost use Rattle.hs_types.specs.declared.reply.Reply.{Reply};
+ghost use Rattle.hs_plain.specs.Joined.{list_cursor as plain_list_cursor, report_cursor as plain_report_cursor};
+ghost use Rattle.script_runner.specs.Keeping.{no_cursors, no_calls, new_client, with_cursor, next_kept};
 
-use block_store::BlockStore;
-use hs_plain::answer::is_exclusive;
-use hs_types::{Answered, Call, CallerId};
-use namenode_write::Namenode;
-use std::alloc::Global;
+use hs_types::{Call, CallerId, Duplicate, ListCursor, NoMemory, PageSize, Reply, ReportCursor};
+use script_text::PagesKind;
 
-/// A caller, with the number of its last call on each namenode.
-#[derive(Clone, Copy)]
+/// The cursors at which `more` and `dmore` go on.
+#[derive(Drop)]
+pub(crate) struct Cursors {
+    pub(crate) listing: Option<ListCursor>,
+    pub(crate) report: Option<ReportCursor>,
+}
+
+impl Cursors {
+    fn none() -> Cursors
+        ensures { result ≡ no_cursors }
+    {
+        Cursors {
+            listing: None,
+            report: None,
+        }
+    }
+
+    /// Keeps the cursor of a reply, or none where the reply has none. The reply goes into the log, so a cursor with a name is
+    /// copied.
+    pub(crate) fn keep(&mut self, kind: PagesKind, reply: &Reply) -> Result<(), NoMemory>
+        ensures { OnOk result (self.new ≡ with_cursor kind reply.now self.old) }
+    {
+        match kind {
+            PagesKind::Listing => self.listing = list_cursor(reply)?,
+            PagesKind::Report => self.report = report_cursor(reply),
+        }
+        Ok(())
+    }
+
+    /// Takes a kept cursor, for the call that goes on there.
+    pub(crate) fn take_next(&mut self, page: PageSize, kind: PagesKind) -> Option<Call>
+        ensures next { result ≡ next_kept page self.old kind }
+        ensures others { (reply : Reply) → with_cursor kind reply self.new ≡ with_cursor kind reply self.old }
+        ensures none { IfNone result (self.new ≡ self.old) }
+    {
+        match kind {
+            PagesKind::Listing => match self.listing.take() {
+                Some(cursor) => Some(Call::ListNext { cursor, size: page }),
+                None => None,
+            },
+            PagesKind::Report => match self.report.take() {
+                Some(cursor) => Some(Call::ReportNext { cursor, size: page }),
+                None => None,
+            },
+        }
+    }
+}
+
+/// What a client knows of one namenode: the number of its last call there, and its cursors.
+#[derive(Drop)]
+pub(crate) struct Session {
+    pub(crate) calls: u64,
+    pub(crate) cursors: Cursors,
+}
+
+impl Session {
+    fn new() -> Session
+        ensures { result ≡ no_calls }
+    {
+        Session {
+            calls: 0,
+            cursors: Cursors::none(),
+        }
+    }
+}
+
+/// A caller, with what it knows of each namenode.
+#[derive(Drop)]
 pub(crate) struct Client {
     pub(crate) caller: CallerId,
-    pub(crate) source_calls: u64,
-    pub(crate) target_calls: u64,
+    pub(crate) source: Session,
+    pub(crate) target: Session,
 }
 
 impl Client {
     /// A caller that has made no call.
     pub(crate) fn new(caller: CallerId) -> Client
-        ensures { result ≡ record { caller = caller; source_calls = 0; target_calls = 0 } }
+        ensures { result ≡ new_client caller }
     {
         Client {
             caller,
-            source_calls: 0,
-            target_calls: 0,
+            source: Session::new(),
+            target: Session::new(),
         }
     }
 }
 
-/// Answers a call that changes nothing and uses no store, and hands it back.
-fn ask<B: BlockStore>(alloc: Global, namenode: &Namenode<B>, call: Call) -> Answered
-    requires shared { is_shared call ≡ true }
-    requires no_report { is_report call ≡ false }
-    ensures legal { (tells : Bool) (caller : CallerId) (seq : ℕ) → IsLegalCall tells journal_limit namenode.now.entries caller seq call result }
-    ensures place { result.position ≡ length namenode.now.entries }
-    ensures none { leaves_entry call result.reply ≡ false }
+/// The cursor of a page of a listing, where it has one.
+fn list_cursor(reply: &Reply) -> Result<Option<ListCursor>, NoMemory>
+    ensures { IfOk result (λ cursor. cursor ≡ plain_list_cursor reply.now) }
 {
-    let position = namenode.tick();
-    Answered {
-        reply: namenode_read::ask(alloc, namenode.table(), namenode.snaps(), position, &call),
-        position,
-        back: Some(call),
+    match reply {
+        Reply::Page {
+            next: Some(cursor),
+            ..
+        } => Ok(Some(cursor.copy()?)),
+        _ => Ok(None),
     }
 }
 
-/// Makes a call, whichever kind it is.
-fn make_call<B: BlockStore>(
-    alloc: Global,
-    namenode: &mut Namenode<B>,
-    caller: CallerId,
-    seq: u64,
-    call: Call,
-) -> Answered
-    requires no_report { is_report call ≡ false }
-    requires usual { namenode.old.limit ≡ journal_limit }
-    ensures legal { IsLegalCall (is_some (B.blocks namenode.old.store)) journal_limit namenode.new.entries caller seq call result }
-    ensures place { result.position ≡ length namenode.old.entries }
-    ensures appended { namenode.new.entries ≡ namenode.old.entries ++ option_to_list (entry_left caller (record { seq = seq; call = call; told = result })) }
-    ensures limit { namenode.new.limit ≡ namenode.old.limit }
-    ensures tells { is_some (B.blocks namenode.new.store) ≡ is_some (B.blocks namenode.old.store) }
-    ensures counted { AreCounted B.faults namenode.old namenode.new }
+/// The cursor of a page of a report, where it has one.
+fn report_cursor(reply: &Reply) -> Option<ReportCursor>
+    ensures { result ≡ plain_report_cursor reply.now }
 {
-    if is_exclusive(&call) {
-        namenode.do_call(caller, seq, call)
-    } else {
-        ask(alloc, namenode, call)
+    match reply {
+        Reply::Report { next, .. } => *next,
+        _ => None,
     }
-}
-
-/// Makes the next call of a caller. `seq` is the number of the last one.
-pub(crate) fn make_next<B: BlockStore>(
-    alloc: Global,
-    namenode: &mut Namenode<B>,
-    caller: CallerId,
-    seq: &mut u64,
-    call: Call,
-) -> Answered
-    requires no_report { is_report call ≡ false }
-    requires usual { namenode.old.limit ≡ journal_limit }
-    ensures made { IsNext (is_some (B.blocks namenode.old.store)) caller.0 namenode.old.entries seq.old namenode.new.entries (record { seq = seq.new; call = call; told = result }) }
-    ensures limit { namenode.new.limit ≡ namenode.old.limit }
-    ensures tells { is_some (B.blocks namenode.new.store) ≡ is_some (B.blocks namenode.old.store) }
-    ensures counted { AreCounted B.faults namenode.old namenode.new }
-{
-    *seq = seq.saturating_add(1);
-    make_call(alloc, namenode, caller, *seq, call)
 }

@@ -2,7 +2,8 @@
 #![tactic(auto)]
 
 mod client;
-mod pages;
+mod commands;
+mod nodes;
 mod sections;
 pub mod serial;
 

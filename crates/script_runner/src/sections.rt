@@ -3,86 +3,21 @@ ghost use Rattle.std.specs.Prelude.{◌≡◌, ◌≤◌, ◌+◌, ◌++◌, ◌
 ghost use Rattle.std.specs.Option.{option_to_list};
 ghost use Rattle.std.specs.List.{list_all};
 ghost use Rattle.hs_types.specs.Limits.{journal_limit};
-ghost use Rattle.namenode_write.specs.Counted.{AreCounted};
-ghost use Rattle.script_text.specs.Today.{is_command_today, is_line_today};
-ghost use Rattle.run_output.specs.Calls.{side_of as plain_side_of};
+ghost use Rattle.script_text.specs.Today.{is_line_today};
 ghost use Rattle.run_output.specs.Run.{is_section as plain_is_section, what_of as plain_what_of};
 ghost use Rattle.script_text.specs.Order.{are_ordered};
-ghost use Rattle.script_runner.specs.Sections.{world, IsCommandRun, IsLineRun, IsSectionRun, is_past, IsFront, HasRoom, IsClientRun, AreClientsTo, AreSectionsRun};
+ghost use Rattle.script_runner.specs.Keeping.{kept_of};
+ghost use Rattle.script_runner.specs.Nodes.{world, StaysNode};
+ghost use Rattle.script_runner.specs.Sections.{IsLineRun, IsSectionRun, is_past, IsFront, IsClientRun, AreClientsTo, AreSectionsRun};
 
 use crate::client::Client;
-use crate::pages::ask_command;
+use crate::nodes::{Nodes, run_command, side_of};
 use block_store::BlockStore;
 use hs_types::{Answered, CallerId, List, NoMemory, PageSize, Side};
-use namenode_write::Namenode;
 use run_output::{ClientLog, LogItem, LogWhat};
-use script_text::{Command, ScriptLine, Section};
+use script_text::{ScriptLine, Section};
 use std::alloc::Global;
 use std::collections::VecDeque;
-
-/// The two namenodes of a run.
-#[derive(Drop)]
-pub(crate) struct Nodes<B: BlockStore> {
-    pub(crate) source: Namenode<B>,
-    pub(crate) target: Namenode<B>,
-}
-
-/// The side that a command of today goes to.
-fn side_of(command: &Command) -> Side
-    requires { is_command_today command.now ≡ true }
-    ensures { plain_side_of command.now ≡ Some result }
-{
-    match command {
-        Command::Call { side, .. }
-        | Command::All { side, .. }
-        | Command::First { side, .. }
-        | Command::More { side, .. } => *side,
-        Command::Sync { .. } => unreachable!(),
-    }
-}
-
-/// Makes the calls of a command, on its side.
-fn run_command<B: BlockStore>(
-    alloc: Global,
-    nodes: &mut Nodes<B>,
-    client: &mut Client,
-    page: PageSize,
-    command: Command,
-) -> Result<List<Answered>, NoMemory>
-    requires few_source { length nodes.old.source.entries ≤ 999 }
-    requires few_target { length nodes.old.target.entries ≤ 999 }
-    requires usual_source { nodes.old.source.limit ≡ journal_limit }
-    requires usual_target { nodes.old.target.limit ≡ journal_limit }
-    requires page { page ≡ 1000 }
-    requires today { is_command_today command ≡ true }
-    ensures ran { IfOk result (IsCommandRun (is_some (B.blocks nodes.old.source.store)) (is_some (B.blocks nodes.old.target.store)) client.old.caller.0 (world nodes.old.source.entries nodes.old.target.entries client.old) (world nodes.new.source.entries nodes.new.target.entries client.new) command) }
-    ensures caller { client.new.caller ≡ client.old.caller }
-    ensures source_limit { nodes.new.source.limit ≡ nodes.old.source.limit }
-    ensures target_limit { nodes.new.target.limit ≡ nodes.old.target.limit }
-    ensures source_tells { is_some (B.blocks nodes.new.source.store) ≡ is_some (B.blocks nodes.old.source.store) }
-    ensures target_tells { is_some (B.blocks nodes.new.target.store) ≡ is_some (B.blocks nodes.old.target.store) }
-    ensures source_counted { OnOk result (AreCounted B.faults nodes.old.source nodes.new.source) }
-    ensures target_counted { OnOk result (AreCounted B.faults nodes.old.target nodes.new.target) }
-{
-    match side_of(&command) {
-        Side::Source => ask_command(
-            alloc,
-            &mut nodes.source,
-            client.caller,
-            &mut client.source_calls,
-            page,
-            command,
-        ),
-        Side::Target => ask_command(
-            alloc,
-            &mut nodes.target,
-            client.caller,
-            &mut client.target_calls,
-            page,
-            command,
-        ),
-    }
-}
 
 /// What a line logs.
 fn what_of(side: Side, list: List<Answered>) -> LogWhat
@@ -103,20 +38,13 @@ fn run_line<B: BlockStore>(
     page: PageSize,
     line: ScriptLine,
 ) -> Result<LogItem, NoMemory>
-    requires few_source { length nodes.old.source.entries ≤ 999 }
-    requires few_target { length nodes.old.target.entries ≤ 999 }
     requires usual_source { nodes.old.source.limit ≡ journal_limit }
     requires usual_target { nodes.old.target.limit ≡ journal_limit }
-    requires page { page ≡ 1000 }
     requires today { is_line_today line ≡ true }
-    ensures ran { IfOk result (IsLineRun (is_some (B.blocks nodes.old.source.store)) (is_some (B.blocks nodes.old.target.store)) client.old.caller.0 (world nodes.old.source.entries nodes.old.target.entries client.old) (world nodes.new.source.entries nodes.new.target.entries client.new) line) }
+    ensures ran { IfOk result (IsLineRun (is_some (B.blocks nodes.old.source.store)) (is_some (B.blocks nodes.old.target.store)) page client.old.caller.0 (world nodes.old.source.entries nodes.old.target.entries client.old) (world nodes.new.source.entries nodes.new.target.entries client.new) (kept_of page client.old) (kept_of page client.new) line) }
     ensures caller { client.new.caller ≡ client.old.caller }
-    ensures source_limit { nodes.new.source.limit ≡ nodes.old.source.limit }
-    ensures target_limit { nodes.new.target.limit ≡ nodes.old.target.limit }
-    ensures source_tells { is_some (B.blocks nodes.new.source.store) ≡ is_some (B.blocks nodes.old.source.store) }
-    ensures target_tells { is_some (B.blocks nodes.new.target.store) ≡ is_some (B.blocks nodes.old.target.store) }
-    ensures source_counted { OnOk result (AreCounted B.faults nodes.old.source nodes.new.source) }
-    ensures target_counted { OnOk result (AreCounted B.faults nodes.old.target nodes.new.target) }
+    ensures source_stays { OnOk result (StaysNode B.blocks B.faults nodes.old.source nodes.new.source) }
+    ensures target_stays { OnOk result (StaysNode B.blocks B.faults nodes.old.target nodes.new.target) }
 {
     let ScriptLine { line, command, .. } = line;
     let side = side_of(&command);
@@ -169,22 +97,15 @@ fn run_section<B: BlockStore>(
     section: Section,
     rest: &mut VecDeque<ScriptLine>,
 ) -> Result<List<LogItem>, NoMemory>
-    requires room { HasRoom nodes.old.source.entries nodes.old.target.entries rest.old.items }
     requires usual_source { nodes.old.source.limit ≡ journal_limit }
     requires usual_target { nodes.old.target.limit ≡ journal_limit }
-    requires page { page ≡ 1000 }
     requires today { list_all is_line_today rest.old.items ≡ true }
-    ensures ran { IfOk result (IsSectionRun (is_some (B.blocks nodes.old.source.store)) (is_some (B.blocks nodes.old.target.store)) client.old.caller.0 section (world nodes.old.source.entries nodes.old.target.entries client.old) (world nodes.new.source.entries nodes.new.target.entries client.new) rest.old.items rest.new.items) }
+    ensures ran { IfOk result (IsSectionRun (is_some (B.blocks nodes.old.source.store)) (is_some (B.blocks nodes.old.target.store)) page client.old.caller.0 section (world nodes.old.source.entries nodes.old.target.entries client.old) (world nodes.new.source.entries nodes.new.target.entries client.new) (kept_of page client.old) (kept_of page client.new) rest.old.items rest.new.items) }
     ensures past { OnOk result (is_past section rest.new.items ≡ true) }
-    ensures room { OnOk result (HasRoom nodes.new.source.entries nodes.new.target.entries rest.new.items) }
     ensures today { OnOk result (list_all is_line_today rest.new.items ≡ true) }
     ensures caller { client.new.caller ≡ client.old.caller }
-    ensures source_limit { nodes.new.source.limit ≡ nodes.old.source.limit }
-    ensures target_limit { nodes.new.target.limit ≡ nodes.old.target.limit }
-    ensures source_tells { is_some (B.blocks nodes.new.source.store) ≡ is_some (B.blocks nodes.old.source.store) }
-    ensures target_tells { is_some (B.blocks nodes.new.target.store) ≡ is_some (B.blocks nodes.old.target.store) }
-    ensures source_counted { OnOk result (AreCounted B.faults nodes.old.source nodes.new.source) }
-    ensures target_counted { OnOk result (AreCounted B.faults nodes.old.target nodes.new.target) }
+    ensures source_stays { OnOk result (StaysNode B.blocks B.faults nodes.old.source nodes.new.source) }
+    ensures target_stays { OnOk result (StaysNode B.blocks B.faults nodes.old.target nodes.new.target) }
 {
     let mut items = Vec::new(alloc);
     let mut next = next_in(rest, section);
@@ -204,21 +125,14 @@ fn run_client<B: BlockStore>(
     number: u32,
     rest: &mut VecDeque<ScriptLine>,
 ) -> Result<ClientLog, NoMemory>
-    requires room { HasRoom nodes.old.source.entries nodes.old.target.entries rest.old.items }
     requires usual_source { nodes.old.source.limit ≡ journal_limit }
     requires usual_target { nodes.old.target.limit ≡ journal_limit }
-    requires page { page ≡ 1000 }
     requires today { list_all is_line_today rest.old.items ≡ true }
-    ensures ran { IfOk result (IsClientRun (is_some (B.blocks nodes.old.source.store)) (is_some (B.blocks nodes.old.target.store)) number nodes.old.source.entries nodes.old.target.entries nodes.new.source.entries nodes.new.target.entries rest.old.items rest.new.items) }
+    ensures ran { IfOk result (IsClientRun (is_some (B.blocks nodes.old.source.store)) (is_some (B.blocks nodes.old.target.store)) page number nodes.old.source.entries nodes.old.target.entries nodes.new.source.entries nodes.new.target.entries rest.old.items rest.new.items) }
     ensures past { OnOk result (is_past (Section.Client number) rest.new.items ≡ true) }
-    ensures room { OnOk result (HasRoom nodes.new.source.entries nodes.new.target.entries rest.new.items) }
     ensures today { OnOk result (list_all is_line_today rest.new.items ≡ true) }
-    ensures source_limit { nodes.new.source.limit ≡ nodes.old.source.limit }
-    ensures target_limit { nodes.new.target.limit ≡ nodes.old.target.limit }
-    ensures source_tells { is_some (B.blocks nodes.new.source.store) ≡ is_some (B.blocks nodes.old.source.store) }
-    ensures target_tells { is_some (B.blocks nodes.new.target.store) ≡ is_some (B.blocks nodes.old.target.store) }
-    ensures source_counted { OnOk result (AreCounted B.faults nodes.old.source nodes.new.source) }
-    ensures target_counted { OnOk result (AreCounted B.faults nodes.old.target nodes.new.target) }
+    ensures source_stays { OnOk result (StaysNode B.blocks B.faults nodes.old.source nodes.new.source) }
+    ensures target_stays { OnOk result (StaysNode B.blocks B.faults nodes.old.target nodes.new.target) }
 {
     let mut client = Client::new(CallerId(number));
     let section = Section::Client(number);
@@ -236,22 +150,15 @@ fn run_clients<B: BlockStore>(
     logs: &mut Vec<ClientLog>,
 ) -> Result<(), NoMemory>
     requires few { clients ≤ 16 }
-    requires room { HasRoom nodes.old.source.entries nodes.old.target.entries rest.old.items }
     requires usual_source { nodes.old.source.limit ≡ journal_limit }
     requires usual_target { nodes.old.target.limit ≡ journal_limit }
-    requires page { page ≡ 1000 }
     requires today { list_all is_line_today rest.old.items ≡ true }
     requires order { are_ordered clients 1 rest.old.items ≡ true }
-    ensures ran { OnOk result (AreClientsTo (is_some (B.blocks nodes.old.source.store)) (is_some (B.blocks nodes.old.target.store)) clients nodes.old.source.entries nodes.old.target.entries nodes.new.source.entries nodes.new.target.entries rest.old.items rest.new.items logs.old.items logs.new.items) }
-    ensures room { OnOk result (HasRoom nodes.new.source.entries nodes.new.target.entries rest.new.items) }
+    ensures ran { OnOk result (AreClientsTo (is_some (B.blocks nodes.old.source.store)) (is_some (B.blocks nodes.old.target.store)) page clients nodes.old.source.entries nodes.old.target.entries nodes.new.source.entries nodes.new.target.entries rest.old.items rest.new.items logs.old.items logs.new.items) }
     ensures today { OnOk result (list_all is_line_today rest.new.items ≡ true) }
     ensures order { OnOk result (are_ordered clients (clients + 1) rest.new.items ≡ true) }
-    ensures source_limit { nodes.new.source.limit ≡ nodes.old.source.limit }
-    ensures target_limit { nodes.new.target.limit ≡ nodes.old.target.limit }
-    ensures source_tells { is_some (B.blocks nodes.new.source.store) ≡ is_some (B.blocks nodes.old.source.store) }
-    ensures target_tells { is_some (B.blocks nodes.new.target.store) ≡ is_some (B.blocks nodes.old.target.store) }
-    ensures source_counted { OnOk result (AreCounted B.faults nodes.old.source nodes.new.source) }
-    ensures target_counted { OnOk result (AreCounted B.faults nodes.old.target nodes.new.target) }
+    ensures source_stays { OnOk result (StaysNode B.blocks B.faults nodes.old.source nodes.new.source) }
+    ensures target_stays { OnOk result (StaysNode B.blocks B.faults nodes.old.target nodes.new.target) }
 {
     for index in 0..clients {
         let log = run_client(alloc, nodes, page, index + 1, rest)?;
@@ -272,19 +179,13 @@ pub(crate) fn run_sections<B: BlockStore>(
     requires new_source { nodes.old.source.entries ≡ [] }
     requires new_target { nodes.old.target.entries ≡ [] }
     requires few { clients ≤ 16 }
-    requires few_lines { length rest.old.items ≤ 1000 }
     requires usual_source { nodes.old.source.limit ≡ journal_limit }
     requires usual_target { nodes.old.target.limit ≡ journal_limit }
-    requires page { page ≡ 1000 }
     requires today { list_all is_line_today rest.old.items ≡ true }
     requires order { are_ordered clients 0 rest.old.items ≡ true }
-    ensures ran { IfOk result (AreSectionsRun (is_some (B.blocks nodes.old.source.store)) (is_some (B.blocks nodes.old.target.store)) clients rest.old.items nodes.new.source.entries nodes.new.target.entries) }
-    ensures source_limit { nodes.new.source.limit ≡ nodes.old.source.limit }
-    ensures target_limit { nodes.new.target.limit ≡ nodes.old.target.limit }
-    ensures source_tells { is_some (B.blocks nodes.new.source.store) ≡ is_some (B.blocks nodes.old.source.store) }
-    ensures target_tells { is_some (B.blocks nodes.new.target.store) ≡ is_some (B.blocks nodes.old.target.store) }
-    ensures source_counted { OnOk result (AreCounted B.faults nodes.old.source nodes.new.source) }
-    ensures target_counted { OnOk result (AreCounted B.faults nodes.old.target nodes.new.target) }
+    ensures ran { IfOk result (AreSectionsRun (is_some (B.blocks nodes.old.source.store)) (is_some (B.blocks nodes.old.target.store)) page clients rest.old.items nodes.new.source.entries nodes.new.target.entries) }
+    ensures source_stays { OnOk result (StaysNode B.blocks B.faults nodes.old.source nodes.new.source) }
+    ensures target_stays { OnOk result (StaysNode B.blocks B.faults nodes.old.target nodes.new.target) }
 {
     let mut logs = Vec::new(alloc);
     let mut client = Client::new(CallerId(0));

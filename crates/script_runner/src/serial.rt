@@ -4,10 +4,11 @@ ghost use Rattle.std.specs.List.{list_all};
 ghost use Rattle.script_text.specs.Today.{is_line_today};
 ghost use Rattle.run_output.specs.Run.{IsEndOf, IsRunInTurn};
 ghost use Rattle.namenode_write.specs.Faulted.{fault_count};
-ghost use Rattle.namenode_write.specs.Counted.{RisesAtMost};
+ghost use Rattle.namenode_write.specs.FaultCounts.{RisesAtMost};
 ghost use Rattle.script_text.specs.Order.{are_ordered};
 
-use crate::sections::{Nodes, run_sections};
+use crate::nodes::Nodes;
+use crate::sections::run_sections;
 use block_store::BlockStore;
 use hs_types::{NoMemory, PageSize};
 use namenode_write::{JournalLimit, Namenode};
@@ -48,12 +49,10 @@ pub fn serial_script<B: BlockStore>(
     requires source_empty { IfSome (B.blocks source_blocks) (λ map. map ≡ []) }
     requires target_empty { IfSome (B.blocks target_blocks) (λ map. map ≡ []) }
 
-    // A script as it is read today, and pages that hold all entries of its directories.
+    // A script as it is read today.
     requires today { list_all is_line_today script.lines ≡ true }
-    requires few_lines { length script.lines ≤ 1000 }
     requires few_clients { script.clients ≤ 16 }
     requires order { are_ordered script.clients 0 script.lines ≡ true }
-    requires page { options.now.page ≡ 1000 }
 
     // It is a run of the script, in turn.
     ensures run { IfOk result (IsRunInTurn (is_some (B.blocks source_blocks)) (is_some (B.blocks target_blocks)) options.now.page script.clients script.lines) }
