@@ -47,11 +47,18 @@ fn write_ran(alloc: Global, case: &Case<'_>, ran: &Ran, out: &mut String) -> Res
     Ok(())
 }
 
+/// How many entries a page has: as the case says, else as many as may be.
+fn page_of(case: &Case<'_>) -> PageSize {
+    let count = case.setting("page ").and_then(|word| word.parse::<u16>().ok());
+    count.and_then(PageSize::new).unwrap_or(PageSize::greatest())
+}
+
 /// Runs a text over two stores, of which the calls of these numbers fail, counted from 1. A text that is no script has its
 /// first bad line.
 fn run(
     alloc: Global,
     script: &str,
+    page: PageSize,
     source_fails: List<u64>,
     target_fails: List<u64>,
 ) -> Result<Ran, ReadScriptFault> {
@@ -59,10 +66,7 @@ fn run(
         return Err(ReadScriptFault::NoMemory);
     }
     let script = read(alloc, script.as_bytes())?;
-    let options = Options {
-        page: PageSize::greatest(),
-        workers: 4,
-    };
+    let options = Options { page, workers: 4 };
     let source = MemBlocks::new(alloc, source_fails);
     let target = MemBlocks::new(alloc, target_fails);
     serial_script(alloc, script, &options, source, target).map_err(|_| ReadScriptFault::NoMemory)
@@ -73,7 +77,7 @@ fn run_case(alloc: Global, case: &Case<'_>, script: &str) -> Result<Ran, ReadScr
         return Err(ReadScriptFault::NoMemory);
     };
     match numbers(alloc, case.setting("target fails at ")) {
-        Ok(target) => run(alloc, script, source, target),
+        Ok(target) => run(alloc, script, page_of(case), source, target),
         Err(NoMemory) => Err(ReadScriptFault::NoMemory),
     }
 }
