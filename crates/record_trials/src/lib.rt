@@ -13,3 +13,5 @@ mod table_fits;
 mod table_print;
 #[cfg(test)]
 mod table_rows;
+#[cfg(test)]
+mod table_steps;

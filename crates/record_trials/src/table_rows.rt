@@ -11,10 +11,14 @@ use crate::table_print::{
     print_at, print_blocks, print_counted, print_counts, print_made, print_marks, print_records,
     records_of,
 };
+use crate::table_steps::{
+    CHANGES, DROPPED, DROPPED_OUT, MERGED, MERGED_OUT, MOVED_OUT, THREE_SNAPSHOTS,
+};
 use dir_changes::DirRows;
 use file_changes::FileRows;
 use hs_types::{BlockId, InodeId, List, Mode, Name, NameText, NoMemory, SnapId, Spot};
 use inode_table::{Change, Freed, Rows, Table};
+use record_merge::drop_snapshot;
 use rename_refs::cover;
 use snapshot_manager::Snaps;
 use std::alloc::Global;
@@ -316,6 +320,24 @@ fn run_unsnap(
     print_snap(snaps.remove(id_at(words, 0), &name), out)
 }
 
+/// Deletes a live snapshot: how many rows went, and the blocks that are handed out. It tells the greatest id after it.
+fn drop_live(
+    table: &mut Table,
+    snaps: &mut Snaps,
+    id: SnapId,
+    out: &mut String,
+) -> Result<u64, NoMemory>
+    ensures { IfOk result (λ now. table.new.greatest ≡ now) }
+{
+    if snaps.by_id(id).is_some() {
+        let freed = drop_snapshot(table, snaps, id)?;
+        print_freed(&freed, out)?;
+    } else {
+        refuse(out)?;
+    }
+    Ok(table.greatest().0)
+}
+
 // ---- questions
 
 fn print_cover(
@@ -394,6 +416,7 @@ fn run(
     let (verb, words) = command.split_once(' ').unwrap_or((command, ""));
     match verb {
         "dir" | "file" => insert(alloc, table, greatest, verb, words),
+        "drop" => drop_live(table, snaps, snap_at(words, 0), out),
         _ => {
             run_kept(alloc, table, snaps, greatest, verb, words, out)?;
             Ok(greatest)
@@ -432,197 +455,66 @@ fn run_step(
     Ok(now)
 }
 
+/// Runs the steps, and tells the greatest id after them.
 fn run_steps(
     alloc: Global,
     table: &mut Table,
     snaps: &mut Snaps,
+    greatest: u64,
     steps: &[(&str, &str)],
     wrong: &mut String,
-) -> Result<(), NoMemory>
-    requires { table.old.greatest ≡ 1 }
+) -> Result<u64, NoMemory>
+    requires { table.old.greatest ≡ greatest }
+    ensures { IfOk result (λ now. table.new.greatest ≡ now) }
 {
-    let mut greatest = 1;
+    let mut now = greatest;
     for step in steps {
-        greatest = run_step(alloc, table, snaps, greatest, *step, wrong)?;
+        now = run_step(alloc, table, snaps, now, *step, wrong)?;
     }
-    Ok(())
+    Ok(now)
 }
 
+/// Runs the first steps on a table with the root alone, and then the others.
 fn run_with(
     alloc: Global,
     table: &mut Table,
-    steps: &[(&str, &str)],
+    first: &[(&str, &str)],
+    then: &[(&str, &str)],
     wrong: &mut String,
 ) -> Result<(), NoMemory>
     requires { table.old.greatest ≡ 1 }
 {
     let mut snaps = Snaps::new(alloc);
-    run_steps(alloc, table, &mut snaps, steps, wrong)
+    let greatest = run_steps(alloc, table, &mut snaps, 1, first, wrong)?;
+    run_steps(alloc, table, &mut snaps, greatest, then, wrong)?;
+    Ok(())
 }
 
-/// Runs the steps on a table with the root alone, and writes down what is wrong.
-fn run_all(alloc: Global, steps: &[(&str, &str)], wrong: &mut String) -> Result<(), NoMemory> {
+/// The same on a new table. It writes down what is wrong.
+fn run_all(
+    alloc: Global,
+    first: &[(&str, &str)],
+    then: &[(&str, &str)],
+    wrong: &mut String,
+) -> Result<(), NoMemory> {
     let mut table = Table::new(alloc)?;
-    run_with(alloc, &mut table, steps, wrong)
+    run_with(alloc, &mut table, first, then, wrong)
 }
 
-// ---- what is run
-
-/// A directory with three snapshots and one change after each, of which the middle one goes first, then the first one, then the
-/// last one.
-const THREE_SNAPSHOTS: &[(&str, &str)] = &[
-    ("dir 2 1 r 0 1", ""),
-    ("add 1 r 2 cover 0 tick 1", ""),
-    ("allow 2", ""),
-    ("file 3 2 a 0 3", ""),
-    ("add 2 a 3 cover 0 tick 3", ""),
-    ("snap 2 s1 4", "1"),
-    ("cover 1,2", "1"),
-    ("file 4 2 b 1 5", ""),
-    ("add 2 b 4 cover 1 tick 5", ""),
-    ("records 2", "1 | 1 + b4 -"),
-    ("snap 2 s2 6", "2"),
-    ("cover 1,2", "2"),
-    ("remove 2 a cover 2 tick 7", ""),
-    ("records 2", "2 | 1 + b4 - | 2 + - a3"),
-    ("snap 2 s3 8", "3"),
-    ("cover 1,2", "3"),
-    ("file 5 2 c 3 9", ""),
-    ("add 2 c 5 cover 3 tick 9", ""),
-    ("records 2", "3 | 1 + b4 - | 2 + - a3 | 3 + c5 -"),
-    ("read 2 1", "1/r 755 3: a3"),
-    ("read 2 2", "1/r 755 5: a3 b4"),
-    ("read 2 3", "1/r 755 7: b4"),
-    ("read 2 0", "1/r 755 9: b4 c5"),
-    ("counts", "5 3 6"),
-    // the middle one goes: what was made after it, and one record less
-    ("made 6 10", "made 2 5 2"),
-    ("made 0 5", "made 2 3 4 2"),
-    ("unsnap 2 s2", "2"),
-    ("merge 2 1", ""),
-    ("release", "0:"),
-    ("records 2", "2 | 1 + b4 - a3 | 3 + c5 -"),
-    ("read 2 1", "1/r 755 3: a3"),
-    ("read 2 3", "1/r 755 7: b4"),
-    ("read 2 0", "1/r 755 9: b4 c5"),
-    ("row 3", "0 0 1"),
-    ("counts", "5 2 6"),
-    // the first one goes, and with it the row of what was removed after it
-    ("unsnap 2 s1", "1"),
-    ("merge 2 0", ""),
-    ("row 3", "0 0 0"),
-    ("release", "1:"),
-    ("row 3", "none"),
-    ("records 2", "1 | 3 + c5 -"),
-    ("read 2 3", "1/r 755 7: b4"),
-    ("counts", "4 1 4"),
-    // the last one goes
-    ("unsnap 2 s3", "3"),
-    ("merge 2 0", ""),
-    ("release", "0:"),
-    ("records 2", "0"),
-    ("read 2 0", "1/r 755 9: b4 c5"),
-    ("row 1", "0 0 0"),
-    ("row 2", "0 0 1"),
-    ("row 4", "1 0 1"),
-    ("row 5", "3 0 1"),
-    ("counts", "4 0 3"),
-];
-
-/// A file is moved out of a directory with a snapshot, and gets bytes afterwards. Then the snapshot goes.
-const MOVED_OUT: &[(&str, &str)] = &[
-    ("dir 2 1 r 0 1", ""),
-    ("add 1 r 2 cover 0 tick 1", ""),
-    ("dir 3 1 out 0 2", ""),
-    ("add 1 out 3 cover 0 tick 2", ""),
-    ("file 4 2 x 0 3", ""),
-    ("add 2 x 4 cover 0 tick 3", ""),
-    ("cover 1,2,4", "0"),
-    ("body 4 2 1 cover 0 tick 4", ""),
-    ("allow 2", ""),
-    ("snap 2 s 6", "1"),
-    ("cover 1", "0"),
-    ("cover 1,2", "1"),
-    ("cover 1,3", "0"),
-    ("cover 1,2,4", "1"),
-    // the move: an entry less, an entry more, another spot, and other marks
-    ("prepare 2,3,4", ""),
-    ("remove 2 x cover 1 tick 7", ""),
-    ("add 3 x 4 cover 0 tick 7", ""),
-    ("move 4 3 x cover 1 tick 7", ""),
-    ("marks 4 1 1", ""),
-    ("row 4", "1 1 2"),
-    ("records 2", "1 | 1 + - x4"),
-    ("records 3", "0"),
-    ("records 4", "1 | 1 4 2"),
-    ("read 4 0", "3/x 644 4 2: 1"),
-    // the bytes: the file carries its cover with it
-    ("cover 1,3", "0"),
-    ("cover 1,3,4", "1"),
-    ("body 4 4 1 cover 1 tick 8", ""),
-    ("records 4", "1 | 1 4 2"),
-    ("read 4 1", "2/x 644 4 2: 1"),
-    ("read 4 0", "3/x 644 8 4: 1"),
-    ("read 2 1", "1/r 755 3: x4"),
-    ("read 2 0", "1/r 755 7:"),
-    ("read 3 1", "1/out 755 7: x4"),
-    ("read 3 0", "1/out 755 7: x4"),
-    ("made 6 8", "made 2 4"),
-    ("counts", "4 2 4"),
-    ("unsnap 2 s", "1"),
-    ("merge 2 0", ""),
-    ("merge 4 0", ""),
-    ("release", "0:"),
-    ("row 4", "1 1 1"),
-    ("records 4", "0"),
-    ("read 4 0", "3/x 644 8 4: 1"),
-    ("counts", "4 0 3"),
-];
-
-/// Each kind of change, the blocks that a dropped record hands out, and a directory that goes with what it holds.
-const CHANGES: &[(&str, &str)] = &[
-    ("dir 2 1 d 0 1", ""),
-    ("add 1 d 2 cover 0 tick 1", ""),
-    ("file 3 2 f 0 2", ""),
-    ("add 2 f 3 cover 0 tick 2", ""),
-    ("body 3 5 7 cover 0 tick 3", ""),
-    ("read 3 0", "2/f 644 3 5: 7"),
-    ("mode 3 416 cover 1 tick 4", ""),
-    ("body 3 9 7,8 cover 1 tick 5", ""),
-    ("records 3", "1 | 1 3 5"),
-    ("read 3 1", "2/f 644 3 5: 7"),
-    ("read 3 2", "2/f 640 5 9: 7 8"),
-    ("body 3 4 9 cover 2 tick 6", ""),
-    ("records 3", "2 | 1 3 5 | 2 5 9"),
-    ("mode 2 448 cover 3 tick 7", ""),
-    ("move 2 1 e cover 3 tick 8", ""),
-    ("records 2", "1 | 3 + -"),
-    ("read 2 3", "1/d 755 2: f3"),
-    ("read 2 0", "1/e 700 7: f3"),
-    ("prepare 2,3", ""),
-    ("counted 3 2 9", "0 0 1 made 3 3 2"),
-    // the blocks that only a dropped record named are handed out once
-    ("merge 3 1", ""),
-    ("release", "0: 8"),
-    ("read 3 2", "2/f 640 6 4: 9"),
-    ("release", "0:"),
-    ("merge 3 0", ""),
-    ("read 3 1", "2/f 640 6 4: 9"),
-    // with a directory goes what it holds
-    ("remove 1 d cover 0 tick 9", ""),
-    ("row 2", "0 0 0"),
-    ("release", "2: 7 9"),
-    ("row 2", "none"),
-    ("row 3", "none"),
-    ("made 0 9", "made"),
-    ("counts", "1 0 0"),
+/// What is done first, and how it goes on.
+const RUNS: [(&[(&str, &str)], &[(&str, &str)]); 5] = [
+    (THREE_SNAPSHOTS, MERGED),
+    (THREE_SNAPSHOTS, DROPPED),
+    (MOVED_OUT, MERGED_OUT),
+    (MOVED_OUT, DROPPED_OUT),
+    (CHANGES, &[]),
 ];
 
 #[test]
 fn tables_show_what_was(rt: HostRuntime) -> Result<(), Fail> {
-    for steps in [THREE_SNAPSHOTS, MOVED_OUT, CHANGES] {
+    for (first, then) in RUNS {
         let mut wrong = String::new(rt.alloc());
-        run_all(rt.alloc(), steps, &mut wrong)?;
+        run_all(rt.alloc(), first, then, &mut wrong)?;
         assert_eq!(rt; wrong.as_str(), "");
     }
     Ok(())

@@ -10,6 +10,8 @@ mod namenodes;
 #[cfg(test)]
 mod plain;
 #[cfg(test)]
+mod reports;
+#[cfg(test)]
 mod scripts;
 #[cfg(test)]
 mod words;

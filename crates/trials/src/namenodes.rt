@@ -116,13 +116,13 @@ fn call_of(alloc: Global, command: &str, path: &str, word: &str) -> Result<Call,
 }
 
 /// The call of a command's words: its name, a path, and what stands behind it.
-fn read_command(alloc: Global, text: &str) -> Result<Call, NoMemory> {
+pub(crate) fn read_command(alloc: Global, text: &str) -> Result<Call, NoMemory> {
     let (command, words) = text.split_once(' ').unwrap_or((text, ""));
     let (path, word) = words.split_once(' ').unwrap_or((words, ""));
     call_of(alloc, command, path, word)
 }
 
-fn reply_to<B: BlockStore>(namenode: &mut Namenode<B>, call: Call) -> Reply {
+pub(crate) fn reply_to<B: BlockStore>(namenode: &mut Namenode<B>, call: Call) -> Reply {
     if is_exclusive(&call) {
         namenode.do_call(CallerId(7), 1, call).reply
     } else {
@@ -287,6 +287,76 @@ fn calls_are_done_where_memory_is_there(rt: HostRuntime) -> Result<(), Fail> {
         let mut out = String::new(rt.alloc());
         run_steady(rt.alloc(), commands, &mut out)?;
         assert_eq!(rt; out.as_str(), text, "{commands}");
+    }
+    Ok(())
+}
+
+// ---- three snapshots, deleted in each order
+
+/// Two snapshottable directories, with what they hold.
+const HELD: (&str, &str) = (
+    "mkdir /r; mkdir /q; allow /r; allow /q; create /r/x; append /r/x 1; create /r/d; append /r/d 1; create /q/y; append /q/y 1; counts",
+    "made 2 0; made 3 0; done 0; done 0; made 4 0; done 1; made 5 1; done 2; made 6 2; done 3; 6 0 5 0; ",
+);
+
+/// A file is moved out of one into the other and gets bytes there, is moved in again, and is replaced. One more gets bytes and
+/// is deleted, and one is deleted as it was.
+const SNAPPED: (&str, &str) = (
+    "snap /r s1; mv /r/x /q/x; append /q/x 1; snap /q s2; append /q/y 1; rm /r/d; mv /q/x /r/z; snap /r s3; createover /r/z; append /r/z 1; rm /q/y; create /q/w; counts",
+    "snap 1 3; done 3; done 3; snap 2 3; done 3; done 3; done 3; snap 3 3; made 7 3; done 4; done 4; made 8 4; 8 6 12 3; ",
+);
+
+/// The deletions in each order. A record stays while any live snapshot is in its interval, of whichever directory. At the end the
+/// live tree alone is counted.
+const ORDERS: [(&str, &str); 6] = [
+    (
+        "snapdel /r s1; counts; snapdel /q s2; counts; disallow /r; disallow /q; snapdel /r s3; counts; disallow /r; tree",
+        "done 3; 7 4 9 2; done 2; 6 1 6 1; HasSnapshots 2; done 2; done 1; 5 0 4 0; done 1; 5 2; ",
+    ),
+    (
+        "snapdel /r s1; counts; snapdel /r s3; counts; read /q/.snapshot/s2/x; snapdel /q s2; counts; tree",
+        "done 3; 7 4 9 2; done 3; 7 4 9 1; aa 3; done 1; 5 0 4 0; 5 2; ",
+    ),
+    (
+        "snapdel /q s2; counts; read /r/.snapshot/s1/x; read /r/.snapshot/s3/z; snapdel /r s1; counts; snapdel /r s3; counts; tree",
+        "done 4; 8 5 12 2; a 4; aa 4; done 2; 6 1 6 1; done 1; 5 0 4 0; 5 2; ",
+    ),
+    (
+        "snapdel /q s2; counts; snapdel /r s3; counts; read /r/.snapshot/s1/x; read /r/.snapshot/s1/d; snapdel /r s1; counts; tree",
+        "done 4; 8 5 12 2; done 4; 8 4 10 1; a 4; a 4; done 1; 5 0 4 0; 5 2; ",
+    ),
+    (
+        "snapdel /r s3; counts; snapdel /r s1; counts; read /q/.snapshot/s2/y; snapdel /q s2; counts; disallow /q; disallow /r; tree",
+        "done 4; 8 6 12 2; done 3; 7 4 9 1; a 3; done 1; 5 0 4 0; done 1; done 1; 5 2; ",
+    ),
+    (
+        "snapdel /r s3; counts; snapdel /q s2; counts; read /r/.snapshot/s1/x; snapdel /r s1; counts; snapdel /r s1; tree",
+        "done 4; 8 6 12 2; done 4; 8 4 10 1; a 4; done 1; 5 0 4 0; NoSnapshot 1; 5 2; ",
+    ),
+];
+
+/// Runs the first commands, the next ones and the last ones on one namenode.
+fn run_three(
+    alloc: Global,
+    first: &str,
+    next: &str,
+    last: &str,
+    out: &mut String,
+) -> Result<(), NoMemory> {
+    let blocks = SteadyBlocks::new(alloc);
+    let mut namenode = Namenode::new(alloc, blocks, JournalLimit::usual())?;
+    run_all(alloc, &mut namenode, first, out)?;
+    run_all(alloc, &mut namenode, next, out)?;
+    run_all(alloc, &mut namenode, last, out)
+}
+
+#[test]
+fn snapshots_are_deleted_in_each_order(rt: HostRuntime) -> Result<(), Fail> {
+    for (commands, text) in ORDERS {
+        let mut out = String::new(rt.alloc());
+        run_three(rt.alloc(), HELD.0, SNAPPED.0, commands, &mut out)?;
+        let wanted = format!(in rt.alloc(); "{}{}{text}", HELD.1, SNAPPED.1)?;
+        assert_eq!(rt; out.as_str(), wanted.as_str(), "{commands}");
     }
     Ok(())
 }
