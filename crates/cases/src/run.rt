@@ -49,8 +49,12 @@ fn write_ran(alloc: Global, case: &Case<'_>, ran: &Ran, out: &mut String) -> Res
 
 /// How many entries a page has: as the case says, else as many as may be.
 fn page_of(case: &Case<'_>) -> PageSize {
-    let count = case.setting("page ").and_then(|word| word.parse::<u16>().ok());
-    count.and_then(PageSize::new).unwrap_or(PageSize::greatest())
+    let count = case
+        .setting("page ")
+        .and_then(|word| word.parse::<u16>().ok());
+    count
+        .and_then(PageSize::new)
+        .unwrap_or(PageSize::greatest())
 }
 
 /// Runs a text over two stores, of which the calls of these numbers fail, counted from 1. A text that is no script has its
