@@ -1,2 +1,4 @@
 pub mod Spans
 pub mod Snapshots
+pub mod RootPaths
+pub mod RootsStay

@@ -6,8 +6,10 @@ use Rattle.hs_types.specs.declared.journal.Entry.{Entry}
 use Rattle.hs_plain.specs.declared.state.Member.{Member}
 use Rattle.hs_plain.specs.declared.state.State.{State}
 use Rattle.hs_plain.specs.State.{member_named, member_with, snapshot_named}
+use Rattle.hs_plain.specs.Reading.{snapshottable_at}
 use Rattle.hs_plain.specs.Replay.{plain_after}
 use Rattle.hs_plain.specs.Span.{Span, Stays}
+use Rattle.hs_plain.specs.Premises.{member_at}
 
 -- the state after the first entries of a journal
 abbrev pub state_at : List Entry → ℕ → State (List ℕ)
@@ -32,3 +34,13 @@ NamesLast = (journal : List Entry) (span : Span) (index : ℕ) (dir : InodeId) (
 abbrev pub NamedIdsLast : Type 0
 NamedIdsLast = (journal : List Entry) (span : Span) (index : ℕ) (dir : InodeId) (name : List ℕ) (snapshot : SnapId) → IsWithin span index → Stays journal span snapshot →
     snapshot_named (state_at journal span.low).members dir name ≡ Ok snapshot → snapshot_named (state_at journal index).members dir name ≡ Ok snapshot
+
+-- a directory that has a snapshot that stays is at its path, and snapshottable, throughout: neither it nor one above it can be deleted or renamed, nor can it be disallowed
+abbrev pub RootsLast : Type 0
+RootsLast = (journal : List Entry) (span : Span) (index : ℕ) (text : List ℕ) (dir : InodeId) (snapshot : SnapId) (member : Member (List ℕ)) → IsWithin span index → Stays journal span snapshot →
+    member_with (state_at journal span.low).members snapshot ≡ Ok member → member.directory ≡ dir → snapshottable_at (state_at journal span.low) text ≡ Ok dir → snapshottable_at (state_at journal index) text ≡ Ok dir
+
+-- together: a path and a name lead to the very same snapshot throughout
+abbrev pub MembersLast : Type 0
+MembersLast = (journal : List Entry) (span : Span) (index : ℕ) (text name : List ℕ) (member : Member (List ℕ)) → IsWithin span index → Stays journal span member.snapshot →
+    member_at (state_at journal span.low) text name ≡ Ok member → member_at (state_at journal index) text name ≡ Ok member
