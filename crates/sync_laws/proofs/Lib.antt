@@ -2,3 +2,5 @@ pub mod Spans
 pub mod Snapshots
 pub mod RootPaths
 pub mod RootsStay
+pub mod Shown
+pub mod Gone

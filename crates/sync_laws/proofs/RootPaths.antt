@@ -21,7 +21,7 @@ use Rattle.hs_plain.specs.State.{is_snapshottable, member_named, member_with, sn
 use Rattle.hs_plain.specs.Modifying.{live_path}
 use Rattle.hs_plain.specs.Reading.{directory_there, live_directory, snapshottable_at}
 use Rattle.hs_plain.specs.Valid.{IsValid}
-use Rattle.hs_plain.proofs.ValidShapes.{Shape, IsTree, is_dir_shape, same_some, true_false, there_above}
+use Rattle.hs_plain.proofs.ValidShapes.{Shape, IsTree, is_dir_shape, true_false, there_above}
 use Rattle.hs_plain.proofs.ValidLists.{In, any_from}
 use Rattle.hs_plain.proofs.ValidMembers.{inode_so, inode_test}
 use Rattle.hs_plain.proofs.ValidNodes.{shape, shapes, shape_some}

@@ -1,8 +1,6 @@
 -- A directory with snapshots stays where it is.
-use Rattle.std.proofs.Common.{◌≡◌, inl, inr, ℕ, Bool, true, false, Option, Some, None, is_some, Ok, Err, List, [], ◌∷◌, ◌++◌, take, refl, ap, sym, subst, ◌∙◌, append-nil, append_assoc}
-use Rattle.std.specs.Prelude.{not, ◌&&◌}
-use Rattle.std.specs.Option.{option_map}
-use Rattle.std.specs.List.{list_any}
+use Rattle.std.proofs.Common.{◌≡◌, ℕ, Bool, true, false, Some, None, is_some, Ok, Err, List, [], ◌∷◌, ◌++◌, refl, ap, sym, ◌∙◌, append-nil, append_assoc}
+use Rattle.std.specs.Prelude.{◌&&◌}
 use Rattle.hs_types.specs.Names.{Names}
 use Rattle.hs_types.specs.declared.ids.InodeId.{InodeId}
 use Rattle.hs_types.specs.declared.ids.SnapId.{SnapId}
@@ -17,10 +15,9 @@ use Rattle.hs_plain.specs.declared.state.Member.{Member}
 use Rattle.hs_plain.specs.declared.state.State.{State}
 use Rattle.hs_plain.specs.Asked.{Asked, ◌>>=◌, refuse_if, both}
 use Rattle.hs_plain.specs.Files.{plain_files}
-use Rattle.hs_plain.specs.Tree.{node_at, walk, walks_above, is_dir, is_dir_body, is_root_path, is_under, same_inode}
+use Rattle.hs_plain.specs.Tree.{node_at, walk, walks_above, is_dir_body, is_root_path, is_under, same_inode}
 use Rattle.hs_plain.specs.State.{member_named, member_with, has_snapshots, holds_snapshots}
-use Rattle.hs_plain.specs.Modifying.{live_path, mkdir_at, create_at, append_at, delete_at, may_move, rename_at}
-use Rattle.hs_plain.specs.Snapshotting.{disallow_at}
+use Rattle.hs_plain.specs.Modifying.{live_path, may_move, rename_at}
 use Rattle.hs_plain.specs.Reading.{snapshottable_at}
 use Rattle.hs_plain.specs.Change.{after}
 use Rattle.hs_plain.specs.Span.{Span, IsInSpan, Stays}
@@ -28,8 +25,8 @@ use Rattle.hs_plain.specs.Premises.{member_at}
 use Rattle.hs_plain.specs.Valid.{is_dir_node, IsValid}
 use Rattle.hs_plain.specs.inside.Places.{IsOutside}
 use Rattle.hs_plain.proofs.ValidTrees as tests
-use Rattle.hs_plain.proofs.ValidShapes.{Shape, Shapes, IsTree, is_dir_shape, same_some, true_false, there_above, under_test}
-use Rattle.hs_plain.proofs.ValidLists.{In, any_from, none_so}
+use Rattle.hs_plain.proofs.ValidShapes.{Shape, Shapes, is_dir_shape, true_false, there_above, under_test}
+use Rattle.hs_plain.proofs.ValidLists.{any_from, none_so}
 use Rattle.hs_plain.proofs.ValidMembers.{inode_so, inode_test}
 use Rattle.hs_plain.proofs.ValidNodes.{shape, shapes, shape_some, dir_shape}
 use Rattle.hs_plain.proofs.ValidHeld.{in-tree}

@@ -19,8 +19,8 @@ use Rattle.hs_plain.specs.State.{is_named, member_named, member_with, snapshot_n
 use Rattle.hs_plain.specs.Snapshotting.{snap_at, snap_del_at, snap_ren_at}
 use Rattle.hs_plain.specs.Answer.{is_modifying}
 use Rattle.hs_plain.specs.Change.{new_member, snapped, is_snapshot, unsnapped, rename_member, resnapped, if_asked, change, is_accepted, changed_if, after}
-use Rattle.hs_plain.specs.Span.{Span, IsInSpan, parted_by, is_that, takes_away, Stays}
-use Rattle.hs_plain.specs.Valid.{rises_above, names_differ, IsValid}
+use Rattle.hs_plain.specs.Span.{Span, parted_by, is_that, takes_away, Stays}
+use Rattle.hs_plain.specs.Valid.{rises_above, IsValid}
 use Rattle.hs_plain.proofs.ValidTrees.{first, second, if_asked-keeps}
 use Rattle.hs_plain.proofs.ValidShapes.{true_false}
 use Rattle.hs_plain.proofs.ValidLists.{In, by_test}

@@ -2,6 +2,7 @@
 #![tactic(auto)]
 
 ghost use Rattle.sync_laws.specs.Lasting.{SnapshotsLast, NamesLast, NamedIdsLast, RootsLast, MembersLast};
+ghost use Rattle.sync_laws.specs.Shown.{SnapsAreShown, SnapsAreOk, ReportsBetween, ReportsToNow, FirstLinesToNow, FirstLinesBetween, FrozenDirsAreListed, FrozenFilesAreRead, ListsAreGone, ReadsAreGone, ReportsAreGone};
 
 /// A snapshot that no entry takes away or gives another name is there throughout a span of the journal, with its name.
 pub fn snapshots_last()
@@ -15,4 +16,31 @@ pub fn snapshots_last()
 pub fn roots_last()
     ensures root { RootsLast }
     ensures member { MembersLast }
+{}
+
+/// A list of a directory's snapshots has each name's id, and is shown where a snapshottable directory is at the path.
+pub fn snapshots_are_shown()
+    ensures shown { SnapsAreShown }
+    ensures ok { SnapsAreOk }
+{}
+
+/// A report between live snapshots, or from one to the current state, is shown by a cursor with their ids.
+pub fn reports_are_shown()
+    ensures between { ReportsBetween }
+    ensures to_now { ReportsToNow }
+    ensures first_to_now { FirstLinesToNow }
+    ensures first_between { FirstLinesBetween }
+{}
+
+/// The directories and files of a live snapshot's tree are shown by cursors with their ids.
+pub fn frozen_is_shown()
+    ensures items { FrozenDirsAreListed }
+    ensures bytes { FrozenFilesAreRead }
+{}
+
+/// A cursor is refused Gone exactly where a snapshot that it names was deleted, or never made.
+pub fn gone_is_deleted()
+    ensures lists { ListsAreGone }
+    ensures reads { ReadsAreGone }
+    ensures reports { ReportsAreGone }
 {}
