@@ -4,3 +4,5 @@ pub mod RootPaths
 pub mod RootsStay
 pub mod Shown
 pub mod Gone
+pub mod Untouched
+pub mod Taken

@@ -1,15 +1,21 @@
 -- What lasts while other entries come: snapshots that no entry takes away, their names, and the directories that have them.
-use Rattle.std.specs.Prelude.{◌≡◌, ℕ, ◌≤◌, List, take, Ok}
+use Rattle.std.specs.Prelude.{◌≡◌, ℕ, ◌≤◌, true, false, List, take, Some, Ok}
+use Rattle.hs_types.specs.Names.{Names}
 use Rattle.hs_types.specs.declared.ids.InodeId.{InodeId}
 use Rattle.hs_types.specs.declared.ids.SnapId.{SnapId}
 use Rattle.hs_types.specs.declared.journal.Entry.{Entry}
+use Rattle.hs_plain.specs.declared.state.Node.{Node}
 use Rattle.hs_plain.specs.declared.state.Member.{Member}
 use Rattle.hs_plain.specs.declared.state.State.{State}
+use Rattle.hs_plain.specs.Tree.{node_at, subtree}
 use Rattle.hs_plain.specs.State.{member_named, member_with, snapshot_named}
-use Rattle.hs_plain.specs.Reading.{snapshottable_at}
+use Rattle.hs_plain.specs.Modifying.{live_path}
+use Rattle.hs_plain.specs.Reading.{is_live, snapshottable_at, lines_between}
+use Rattle.hs_plain.specs.Change.{is_accepted}
 use Rattle.hs_plain.specs.Replay.{plain_after}
-use Rattle.hs_plain.specs.Span.{Span, Stays}
-use Rattle.hs_plain.specs.Premises.{member_at}
+use Rattle.hs_plain.specs.Frozen.{is_snap_del}
+use Rattle.hs_plain.specs.Span.{Span, IsInSpan, touches, parted_by, Stays}
+use Rattle.hs_plain.specs.Premises.{member_at, now}
 
 -- the state after the first entries of a journal
 abbrev pub state_at : List Entry → ℕ → State (List ℕ)
@@ -44,3 +50,45 @@ RootsLast = (journal : List Entry) (span : Span) (index : ℕ) (text : List ℕ)
 abbrev pub MembersLast : Type 0
 MembersLast = (journal : List Entry) (span : Span) (index : ℕ) (text name : List ℕ) (member : Member (List ℕ)) → IsWithin span index → Stays journal span member.snapshot →
     member_at (state_at journal span.low) text name ≡ Ok member → member_at (state_at journal index) text name ≡ Ok member
+
+-- ---- a directory that no entry touches
+
+-- no entry in a span touches the directory of this text
+abbrev pub IsUntouched : List Entry → Span → List ℕ → Type 0
+IsUntouched journal span text = (index : ℕ) (entry : Entry) → IsInSpan journal span index entry → touches text entry ≡ false
+
+-- the same directory is at a path in two states, with the very same tree below it
+pub record IsSameBelow (before after : State (List ℕ)) (path : Names) (dir : InodeId) : Type 0 where
+  pub node : Node (List ℕ)
+  pub was : node_at before.tree path ≡ Some node
+  pub is : node_at after.tree path ≡ Some node
+  pub same_dir : node.id ≡ dir
+  pub same : subtree after.tree path ≡ subtree before.tree path
+
+-- a directory with a snapshot that stays, and that no entry touches, keeps its tree
+abbrev pub UntouchedTreesStay : Type 0
+UntouchedTreesStay = (journal : List Entry) (span : Span) (text : List ℕ) (path : Names) (dir : InodeId) (snapshot : SnapId) (member : Member (List ℕ)) → span.low ≤ span.high → Stays journal span snapshot → IsUntouched journal span text →
+    member_with (state_at journal span.low).members snapshot ≡ Ok member → member.directory ≡ dir → snapshottable_at (state_at journal span.low) text ≡ Ok dir → live_path text ≡ Ok path →
+    IsSameBelow (state_at journal span.low) (state_at journal span.high) path dir
+
+-- so the report from the snapshot to the current state stays
+abbrev pub UntouchedReportsStay : Type 0
+UntouchedReportsStay = (journal : List Entry) (span : Span) (text : List ℕ) (dir : InodeId) (snapshot : SnapId) (member : Member (List ℕ)) → span.low ≤ span.high → Stays journal span snapshot → IsUntouched journal span text →
+    member_with (state_at journal span.low).members snapshot ≡ Ok member → member.directory ≡ dir → snapshottable_at (state_at journal span.low) text ≡ Ok dir →
+    lines_between (state_at journal span.high) dir snapshot now ≡ lines_between (state_at journal span.low) dir snapshot now
+
+-- ---- a snapshot that is gone
+
+-- an accepted entry of a span is the SnapDel of this snapshot
+pub record WasDeleted (journal : List Entry) (span : Span) (snapshot : SnapId) : Type 0 where
+  pub index : ℕ
+  pub entry : Entry
+  pub at : IsInSpan journal span index entry
+  pub accepted : is_accepted entry.kind ≡ true
+  pub deletes : is_snap_del entry.call ≡ true
+  pub its : parted_by (state_at journal index) entry.call ≡ Some snapshot
+
+-- a snapshot that is there when a span begins and isn't when it ends was deleted in it
+abbrev pub TakenWasDeleted : Type 0
+TakenWasDeleted = (journal : List Entry) (span : Span) (snapshot : SnapId) (member : Member (List ℕ)) → span.low ≤ span.high →
+    member_with (state_at journal span.low).members snapshot ≡ Ok member → is_live (state_at journal span.high).members snapshot ≡ false → WasDeleted journal span snapshot

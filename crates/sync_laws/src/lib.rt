@@ -1,7 +1,7 @@
 //! Laws of what lasts while a sync is at work: functions without a body, each for its contract.
 #![tactic(auto)]
 
-ghost use Rattle.sync_laws.specs.Lasting.{SnapshotsLast, NamesLast, NamedIdsLast, RootsLast, MembersLast};
+ghost use Rattle.sync_laws.specs.Lasting.{SnapshotsLast, NamesLast, NamedIdsLast, RootsLast, MembersLast, UntouchedTreesStay, UntouchedReportsStay, TakenWasDeleted};
 ghost use Rattle.sync_laws.specs.Shown.{SnapsAreShown, SnapsAreOk, ReportsBetween, ReportsToNow, FirstLinesToNow, FirstLinesBetween, FrozenDirsAreListed, FrozenFilesAreRead, ListsAreGone, ReadsAreGone, ReportsAreGone};
 
 /// A snapshot that no entry takes away or gives another name is there throughout a span of the journal, with its name.
@@ -16,6 +16,17 @@ pub fn snapshots_last()
 pub fn roots_last()
     ensures root { RootsLast }
     ensures member { MembersLast }
+{}
+
+/// A directory with a snapshot that stays keeps its tree while no entry touches it, and with it its report since the snapshot.
+pub fn untouched_stays()
+    ensures tree { UntouchedTreesStay }
+    ensures report { UntouchedReportsStay }
+{}
+
+/// Where a snapshot is gone, an accepted entry deleted it.
+pub fn taken_was_deleted()
+    ensures { TakenWasDeleted }
 {}
 
 /// A list of a directory's snapshots has each name's id, and is shown where a snapshottable directory is at the path.
