@@ -33,15 +33,12 @@ abbrev is_gone_asked : {X : Type 0} → Asked X → Bool
 is_gone_asked (Ok x) = false
 is_gone_asked (Err why) = is_gone_reply (replies.Refused why)
 
+-- where neither of two tests does, both don't
 then-none : {X Y : Type 0} (asked : Asked X) (f : X → Asked Y) → is_gone_asked asked ≡ false → ((x : X) → is_gone_asked (f x) ≡ false) → is_gone_asked (asked >>= f) ≡ false
 then-none (Ok x) f none rest = rest x
 then-none (Err why) f none rest = none
 
--- and a reply that is made of it
-replied-none : (asked : Asked Reply) → is_gone_asked asked ≡ false → ((reply : Reply) → asked ≡ Ok reply → is_gone_reply reply ≡ false) → is_gone_reply (reply_to asked) ≡ false
-replied-none (Ok reply) none made = made reply refl
-replied-none (Err why) none made = none
-
+-- nor does a reply that is made of what is found
 made-by : {X : Type 0} (asked : Asked X) (f : X → Reply) → is_gone_asked asked ≡ false → ((x : X) → is_gone_reply (f x) ≡ false) → is_gone_reply (reply_to (asked >>= λ x. Ok (f x))) ≡ false
 made-by (Ok x) f none made = made x
 made-by (Err why) f none made = none

@@ -16,7 +16,7 @@ use Rattle.hs_types.specs.declared.call.Place.TheVariants as places
 use Rattle.hs_plain.specs.declared.state.Node.{Node}
 use Rattle.hs_plain.specs.declared.state.State.{State}
 use Rattle.hs_plain.specs.Asked.{Asked, ◌>>=◌, refuse_if}
-use Rattle.hs_plain.specs.Tree.{Tree, node_at, passes, walks_from, walks_above, found, walk, is_dir, place_of}
+use Rattle.hs_plain.specs.Tree.{Tree, node_at, passes, walks_from, walks_above, found, walk, is_dir, same_inode, place_of}
 use Rattle.hs_plain.specs.State.{is_snapshottable, member_named, member_with, snapshot_root, resolve_tail, resolve, plain_base, plain_of}
 use Rattle.hs_plain.specs.Modifying.{live_path}
 use Rattle.hs_plain.specs.Reading.{directory_there, live_directory, snapshottable_at}
@@ -142,7 +142,7 @@ root-from state valid text dir root =
     let n : (n : Node (List ℕ)) × (node_at state.tree root.path ≡ Some n) × (shape n ≡ (dir.0, true)) = shape_some (node_at state.tree root.path) (dir.0, true) root.at.0 in
     let id : n.0.id ≡ dir = inode_so n.0.id dir (inode_test n.0.id dir (ap (λ (s : Shape). s.0) n.2)) in
     let here : place_of state.tree n.0.id ≡ Some (root.path, n.0) = place_of-here state.tree (tree-of state valid) root.path n.0 n.0.id n.1 refl in
-    let listed : is_snapshottable state dir ≡ true = any_from (Rattle.hs_plain.specs.Tree.same_inode dir) state.snapshottable dir root.at.1 ((Decides-eqb dir.0 dir.0).1 refl) in
+    let listed : is_snapshottable state dir ≡ true = any_from (same_inode dir) state.snapshottable dir root.at.1 ((Decides-eqb dir.0 dir.0).1 refl) in
     ap (λ (read : Asked Path). read >>= asks) a.1
     ∙ ap asks (plain-so a.0 root.path a.2)
     ∙ ap (λ (w : Asked (Unit {0})). with_node (w >>= λ _. found (node_at state.tree root.path)) >>= lists) (walks-there state.tree state.next_inode (live_tree state valid) [] root.path (dir.0, true) root.at.0)

@@ -11,6 +11,7 @@ use Rattle.hs_types.specs.declared.call.Call.TheVariants as calls
 use Rattle.hs_types.specs.declared.journal.Entry.{Entry}
 use Rattle.hs_plain.specs.declared.state.Node.{Node}
 use Rattle.hs_plain.specs.declared.state.Body.{Body}
+use Rattle.hs_plain.specs.declared.state.Body.TheVariants.{File}
 use Rattle.hs_plain.specs.declared.state.Member.{Member}
 use Rattle.hs_plain.specs.declared.state.State.{State}
 use Rattle.hs_plain.specs.Asked.{Asked, ◌>>=◌, refuse_if, both}
@@ -70,7 +71,7 @@ module _ (state : State (List ℕ)) (valid : IsValid state) (root : Names) (dir 
       true_false (tests.both (ap (has_snapshots state) id ∙ held) (under_test root path rest e))
       (none_so (λ place. has_snapshots state place.1.id && is_under path place) state.tree none (root, n.0) (in-tree state.tree root n.0 n.1))
 
-  file-no-dir : (body : Body (List ℕ)) (file : List ℕ) → body ≡ Rattle.hs_plain.specs.declared.state.Body.TheVariants.File file → is_dir_body body ≡ false
+  file-no-dir : (body : Body (List ℕ)) (file : List ℕ) → body ≡ File file → is_dir_body body ≡ false
   file-no-dir body file e = ap is_dir_body e
 
   moves-held : (old new : Names) (u : Unit {0}) → may_move state old new ≡ Ok u → holds_snapshots state old ≡ false
@@ -143,9 +144,9 @@ roots-last journal span index text dir snapshot member within stays has same lea
     let later : Keeps root.path dir snapshot member (state_at journal index) = root-throughout journal span root.path dir snapshot member stays same (root.at, has) index within in
     root-from (state_at journal index) (valid-at journal index) text dir (record { path = root.path; leads = root.leads; at = later.0 })
 
-pub members-last : (journal : List Entry) (span : Span) (index : ℕ) (text name : List ℕ) (member : Member (List ℕ)) → IsWithin span index → Stays journal span member.snapshot →
+pub member-lasts : (journal : List Entry) (span : Span) (index : ℕ) (text name : List ℕ) (member : Member (List ℕ)) → IsWithin span index → Stays journal span member.snapshot →
     member_at (state_at journal span.low) text name ≡ Ok member → member_at (state_at journal index) text name ≡ Ok member
-members-last journal span index text name member within stays begins =
+member-lasts journal span index text name member within stays begins =
     let low : State (List ℕ) = state_at journal span.low in
     let a : (dir : InodeId) × (snapshottable_at low text ≡ Ok dir) × (member_named low.members dir name ≡ Ok member) = ok_then (snapshottable_at low text) (λ dir. member_named low.members dir name) member begins in
     let so = named-so low.members a.0 name member a.2 in

@@ -7,8 +7,11 @@ use Rattle.hs_types.specs.Names.{Names}
 use Rattle.hs_types.specs.declared.ids.InodeId.{InodeId}
 use Rattle.hs_types.specs.declared.ids.SnapId.{SnapId}
 use Rattle.hs_types.specs.declared.name.SnapItem.{SnapItem}
+use Rattle.hs_types.specs.declared.journal.Entry.{Entry}
 use Rattle.hs_types.specs.declared.call.Call.TheVariants as calls
+use Rattle.hs_types.specs.declared.call.Place.{Place}
 use Rattle.hs_types.specs.declared.call.ReportCursor.{ReportCursor}
+use Rattle.hs_types.specs.declared.reply.Item.{Item}
 use Rattle.hs_types.specs.declared.reply.Reply.{Reply}
 use Rattle.hs_types.specs.declared.reply.Reply.TheVariants as replies
 use Rattle.hs_types.specs.declared.refusal.Refusal.{Refusal}
@@ -26,14 +29,16 @@ use Rattle.hs_plain.specs.Pages.{page_of, bytes_page}
 use Rattle.hs_plain.specs.Reading.{is_deleted, file_there, snapshottable_at, snap_item, lines_between, began_at, report_page, is_foreign, has_moved}
 use Rattle.hs_plain.specs.Answer.{answer, is_ok_reply, reply_to}
 use Rattle.hs_plain.specs.Joined.{lines_shown}
+use Rattle.hs_plain.specs.Span.{Span, Stays}
 use Rattle.hs_plain.specs.Premises.{now}
 use Rattle.hs_plain.specs.Valid.{IsValid}
 use Rattle.hs_plain.proofs.ValidLists.{false_by, any_from, all_so}
 use Rattle.hs_plain.proofs.ValidMembers.{inode_test, above_all, snapshot_of}
 use Rattle.hs_plain.proofs.ValidTrees as tests
 use Rattle.hs_plain.proofs.Paged.{live-found, is_found}
+use Rattle.sync_laws.specs.Lasting.{state_at, IsWithin}
 use Rattle.sync_laws.specs.Shown.{id_named, ShowsSnaps, IsSnapshotOf, report_start, ShowsLines, frozen, list_from, read_from}
-use Rattle.sync_laws.proofs.Snapshots.{with-so, named-id, id-named}
+use Rattle.sync_laws.proofs.Snapshots.{snapshots-last, with-so, id_in, named-id, id-named}
 
 err_ok : {X : Type 0} {why : Refusal} {x : X} → Err why ≡ Ok x → ⊥
 err_ok h = cc
@@ -42,9 +47,6 @@ err_ok h = cc
 
 abbrev items_in : List (Member (List ℕ)) → InodeId → List SnapItem
 items_in ms dir = filter_map (snap_item dir) ms
-
-item-of : Member (List ℕ) → SnapItem
-item-of m = record { id = m.snapshot; tick = m.tick; name = m.name }
 
 ids-so : (ms : List (Member (List ℕ))) (dir : InodeId) (name : List ℕ) → id_named (items_in ms dir) name ≡ some_asked (snapshot_named ms dir name)
 ids-so [] dir name = refl
@@ -93,7 +95,7 @@ snaps-shown state path dir items is =
       root = so.root;
       ids = ids;
       sound = λ name snapshot named. id-named state.members dir name snapshot (asked-some (snapshot_named state.members dir name) snapshot (sym (ids name) ∙ named));
-      complete = λ name member named. ids name ∙ ap some_asked (named-id state.members dir name ∙ ap Rattle.sync_laws.proofs.Snapshots.id_in named);
+      complete = λ name member named. ids name ∙ ap some_asked (named-id state.members dir name ∙ ap id_in named);
     }
 
 pub snaps-ok : (state : State (List ℕ)) (path : List ℕ) (dir : InodeId) → snapshottable_at state path ≡ Ok dir → (items : List SnapItem) × (answer state (calls.Snaps path) ≡ replies.Snaps dir items)
@@ -107,6 +109,10 @@ and-false false = refl
 
 pub live-not_deleted : (state : State (List ℕ)) (snapshot : SnapId) (member : Member (List ℕ)) → member_with state.members snapshot ≡ Ok member → is_deleted state snapshot ≡ false
 live-not_deleted state snapshot member live = ap (λ b. not (snapshot.0 == 0) && not b) (live-found state.members snapshot ∙ ap is_found live) ∙ and-false (not (snapshot.0 == 0))
+
+pub never-gone : (journal : List Entry) (span : Span) (index : ℕ) (snapshot : SnapId) (member : Member (List ℕ)) → IsWithin span index → Stays journal span snapshot →
+    member_with (state_at journal span.low).members snapshot ≡ Ok member → is_deleted (state_at journal index) snapshot ≡ false
+never-gone journal span index snapshot member within stays begins = live-not_deleted (state_at journal index) snapshot member (snapshots-last journal span index snapshot member within stays begins)
 
 -- an end of a report that is good
 record IsEnd (state : State (List ℕ)) (dir : InodeId) (end : SnapId) : Type 0 where
@@ -180,7 +186,7 @@ dirs-listed state id snapshot member place after size live at dir =
     ∙ ap (λ o. reply_to (paged (items_of member.tree o))) at
     ∙ ap (λ b. reply_to (paged (cond b (Ok (listing member.tree place.0)) (Err NotDir)))) dir
   where
-    paged : Asked (List Rattle.hs_types.specs.declared.reply.Item.Item) → Asked Reply
+    paged : Asked (List Item) → Asked Reply
     paged asked = asked >>= λ items. Ok (page_of (frozen id snapshot) items after size)
 
 pub files-read : (state : State (List ℕ)) (id : InodeId) (snapshot : SnapId) (member : Member (List ℕ)) (place : Names × Node (List ℕ)) (bytes : List ℕ) (offset len : ℕ) →
@@ -192,8 +198,8 @@ files-read state id snapshot member place bytes offset len live at body =
     ∙ ap (λ o. reply_to (paged (placed (file_there o)))) at
     ∙ ap (λ (b : Body (List ℕ)). reply_to (paged (placed (file_in b)))) body
   where
-    placed : Asked (List ℕ) → Asked (Rattle.hs_types.specs.declared.call.Place.Place × List ℕ)
+    placed : Asked (List ℕ) → Asked (Place × List ℕ)
     placed asked = asked >>= λ file. Ok (frozen id snapshot, file)
 
-    paged : Asked (Rattle.hs_types.specs.declared.call.Place.Place × List ℕ) → Asked Reply
+    paged : Asked (Place × List ℕ) → Asked Reply
     paged asked = asked >>= λ at. Ok (bytes_page at.0 at.1 offset len)

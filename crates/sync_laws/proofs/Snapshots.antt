@@ -7,6 +7,7 @@ use Rattle.std.proofs.lemmas.Slice.Eq.{bytes_eq-Decides}
 use Rattle.hs_types.specs.declared.ids.InodeId.{InodeId}
 use Rattle.hs_types.specs.declared.ids.SnapId.{SnapId}
 use Rattle.hs_types.specs.declared.refusal.Refusal.{Refusal}
+use Rattle.hs_types.specs.declared.refusal.Refusal.TheVariants.{NoSnapshot}
 use Rattle.hs_types.specs.declared.call.Call.{Call}
 use Rattle.hs_types.specs.declared.call.Call.TheVariants as calls
 use Rattle.hs_types.specs.declared.journal.Entry.{Entry}
@@ -178,7 +179,7 @@ names-last journal span index dir name member within stays begins =
 -- the id that a name leads to is that of the snapshot with the name
 abbrev pub id_in : Asked (Member (List ℕ)) → Asked SnapId
 id_in (Ok member) = Ok member.snapshot
-id_in (Err why) = Err Rattle.hs_types.specs.declared.refusal.Refusal.TheVariants.NoSnapshot
+id_in (Err why) = Err NoSnapshot
 
 pub named-id : (ms : Members) (dir : InodeId) (name : List ℕ) → snapshot_named ms dir name ≡ id_in (member_named ms dir name)
 named-id [] dir name = refl

@@ -1,5 +1,5 @@
 -- A snapshot that is gone was deleted.
-use Rattle.std.proofs.Common.{◌≡◌, ◌⊎◌, inl, inr, ℕ, ◌≤◌, true, false, Option, Some, None, Ok, List, refl, ap, ◌∙◌, arith}
+use Rattle.std.proofs.Common.{◌≡◌, ◌⊎◌, inl, inr, ℕ, ◌≤◌, true, false, not, ◌==◌, Option, Some, None, Ok, List, refl, ap, ◌∙◌, arith}
 use Rattle.std.proofs.lemmas.Bool.Decides.{Decides-eqb}
 use Rattle.hs_types.specs.declared.ids.SnapId.{SnapId}
 use Rattle.hs_types.specs.declared.journal.Entry.{Entry}
@@ -7,13 +7,13 @@ use Rattle.hs_plain.specs.declared.state.Member.{Member}
 use Rattle.hs_plain.specs.declared.state.State.{State}
 use Rattle.hs_plain.specs.Files.{plain_files}
 use Rattle.hs_plain.specs.State.{member_with}
-use Rattle.hs_plain.specs.Reading.{is_live}
+use Rattle.hs_plain.specs.Reading.{is_live, is_deleted}
 use Rattle.hs_plain.specs.Change.{is_accepted, after}
 use Rattle.hs_plain.specs.Span.{Span, IsInSpan, parted_by, is_that, takes_away}
 use Rattle.hs_plain.specs.Frozen.{is_snap_del, IsAmong}
 use Rattle.hs_plain.proofs.ValidTrees as tests
 use Rattle.hs_plain.proofs.ValidShapes.{true_false}
-use Rattle.hs_plain.proofs.ValidLists.{by_test}
+use Rattle.hs_plain.proofs.ValidLists.{by_test, not_so}
 use Rattle.hs_plain.proofs.Paged.{live-found, is_found}
 use Rattle.hs_plain.proofs.ReportEnds.{Finds, finds}
 use Rattle.hs_plain.proofs.Frozen.{only_snap_del}
@@ -57,3 +57,8 @@ taken-deleted journal span snapshot member ordered begins gone = ended (througho
     step : (index : ℕ) (entry : Entry) → IsInSpan journal span index entry → Alive (state_at journal index) → Alive (after plain_files (state_at journal index) entry)
     step index entry at (inl deleted) = inl deleted
     step index entry at (inr live) = one index entry at (finds (state_at journal index).members snapshot live)
+
+pub gone-deleted : (journal : List Entry) (span : Span) (snapshot : SnapId) (member : Member (List ℕ)) → span.low ≤ span.high →
+    member_with (state_at journal span.low).members snapshot ≡ Ok member → is_deleted (state_at journal span.high) snapshot ≡ true → WasDeleted journal span snapshot
+gone-deleted journal span snapshot member ordered begins gone =
+    taken-deleted journal span snapshot member ordered begins (not_so (is_live (state_at journal span.high).members snapshot) (tests.second (not (snapshot.0 == 0)) (not (is_live (state_at journal span.high).members snapshot)) gone))

@@ -1,5 +1,5 @@
 -- A directory that no entry touches keeps its tree.
-use Rattle.std.proofs.Common.{◌≡◌, ℕ, ◌+◌, ◌≤◌, true, false, cond, ◌==◌, Some, Ok, Err, List, [], ◌∷◌, ◌++◌, refl, ap, sym, ◌∙◌, append-nil, append_assoc, arith}
+use Rattle.std.proofs.Common.{◌≡◌, ℕ, ◌+◌, true, false, cond, ◌==◌, Some, Ok, Err, List, [], ◌∷◌, ◌++◌, refl, ap, sym, ◌∙◌, append-nil, append_assoc, arith}
 use Rattle.std.specs.Prelude.{◌≢◌}
 use Rattle.std.specs.List.{list_any}
 use Rattle.std.specs.FinMap.Entries.{same_entries}
@@ -29,7 +29,7 @@ use Rattle.hs_plain.proofs.ValidTrees.{paths_total, paths_exact, holds_so}
 use Rattle.hs_plain.proofs.ValidShapes.{Shape, by_last, parent_of-last}
 use Rattle.hs_plain.proofs.ValidLists.{neither_first}
 use Rattle.hs_plain.proofs.ValidMembers.{inode_so, inode_test}
-use Rattle.hs_plain.proofs.ValidNodes.{shape, shape_some}
+use Rattle.hs_plain.proofs.ValidNodes.{shape, shapes, shape_some}
 use Rattle.hs_plain.proofs.ValidDirs.{fork}
 use Rattle.hs_plain.proofs.ValidFollows.{live_tree}
 use Rattle.hs_plain.proofs.ValidCalls.{free_below}
@@ -43,7 +43,7 @@ use Rattle.plan_laws.proofs.Roots.{IsRootAt}
 use Rattle.plan_laws.proofs.Near.{IsApart, live-is, near-apart}
 use Rattle.plan_laws.proofs.Apart.{CallApart, far-apart}
 use Rattle.plan_laws.proofs.Steps.{tree-of}
-use Rattle.sync_laws.specs.Lasting.{state_at, IsWithin, IsUntouched, IsSameBelow}
+use Rattle.sync_laws.specs.Lasting.{state_at, IsWithin, front_of, IsUntouched, IsSameBelow}
 use Rattle.sync_laws.proofs.Spans.{throughout}
 use Rattle.sync_laws.proofs.Snapshots.{valid-at, snapshots-last}
 use Rattle.sync_laws.proofs.RootPaths.{LeadsTo, root-so}
@@ -151,33 +151,34 @@ same-subtrees a b a_valid b_valid root same =
 abbrev Stands : State (List ℕ) → Names → InodeId → SnapId → Member (List ℕ) → State (List ℕ) → Type 0
 Stands low root dir snapshot member state = Keeps root dir snapshot member state × ((q : Names) → node_at state.tree (root ++ q) ≡ node_at low.tree (root ++ q))
 
-module _ (journal : List Entry) (span : Span) (text : List ℕ) (dir : InodeId) (snapshot : SnapId) (member : Member (List ℕ)) (ordered : span.low ≤ span.high) (stays : Stays journal span snapshot) (untouched : IsUntouched journal span text)
+module _ (journal : List Entry) (span : Span) (index : ℕ) (text : List ℕ) (dir : InodeId) (snapshot : SnapId) (member : Member (List ℕ)) (within : IsWithin span index) (stays : Stays journal span snapshot) (untouched : IsUntouched journal (front_of span index) text)
     (has : member_with (state_at journal span.low).members snapshot ≡ Ok member) (own : member.directory ≡ dir) (leads : snapshottable_at (state_at journal span.low) text ≡ Ok dir) where
   abbrev low : State (List ℕ)
   low = state_at journal span.low
 
   abbrev high : State (List ℕ)
-  high = state_at journal span.high
+  high = state_at journal index
 
   root : LeadsTo low text dir
   root = root-so low (valid-at journal span.low) text dir leads
 
-  within : IsWithin span span.high
-  within = record { from = ordered; up_to = omega arith }
+  -- the snapshot stays up to the index
+  stays-before : Stays journal (front_of span index) snapshot
+  stays-before i entry there = stays i entry (record { from = there.from; below = omega (arith, there.below, within.up_to); there = there.there })
 
   stands : (path : Names) → IsRootAt low path dir → live_path text ≡ Ok path → Stands low path dir snapshot member high
-  stands path at is = throughout (Stands low path dir snapshot member) journal span
-      (λ index entry there so. (
-        root-keeps journal span path dir snapshot member stays own index entry there so.0,
-        λ q. entry-same (state_at journal index) (valid-at journal index) path dir text is so.0.0 entry (untouched index entry there) q ∙ so.1 q,
+  stands path at is = throughout (Stands low path dir snapshot member) journal (front_of span index)
+      (λ i entry there so. (
+        root-keeps journal (front_of span index) path dir snapshot member stays-before own i entry there so.0,
+        λ q. entry-same (state_at journal i) (valid-at journal i) path dir text is so.0.0 entry (untouched i entry there) q ∙ so.1 q,
       ))
       ((at, has), λ q. refl)
-      span.high within
+      index (record { from = within.from; up_to = omega arith })
 
   pub trees-stay : (path : Names) → live_path text ≡ Ok path → IsSameBelow low high path dir
   trees-stay path is =
       let one : root.path ≡ path = same_ok (sym root.leads ∙ is) in
-      let at : IsRootAt low path dir = (ap (Rattle.hs_plain.proofs.ValidNodes.shapes low.tree) (sym one) ∙ root.at.0, root.at.1) in
+      let at : IsRootAt low path dir = (ap (shapes low.tree) (sym one) ∙ root.at.0, root.at.1) in
       let so : Stands low path dir snapshot member high = stands path at is in
       let n : (n : Node (List ℕ)) × (node_at low.tree path ≡ Some n) × (n.id ≡ dir) = node-there low path dir at in
       record {
@@ -185,7 +186,7 @@ module _ (journal : List Entry) (span : Span) (text : List ℕ) (dir : InodeId) 
         was = n.1;
         is = ap (node_at high.tree) (sym (append-nil path)) ∙ so.1 [] ∙ ap (node_at low.tree) (append-nil path) ∙ n.1;
         same_dir = n.2;
-        same = same-subtrees high low (valid-at journal span.high) (valid-at journal span.low) path so.1;
+        same = same-subtrees high low (valid-at journal index) (valid-at journal span.low) path so.1;
       }
 
   -- the live tree below a directory is that at its path
@@ -196,7 +197,7 @@ module _ (journal : List Entry) (span : Span) (text : List ℕ) (dir : InodeId) 
   reports-stay =
       let kept : IsSameBelow low high root.path dir = trees-stay root.path root.leads in
       let below : tree_below high.tree (place_of high.tree dir) ≡ tree_below low.tree (place_of low.tree dir) =
-      live-tree high (valid-at journal span.high) root.path kept.node kept.is kept.same_dir ∙ kept.same ∙ sym (live-tree low (valid-at journal span.low) root.path kept.node kept.was kept.same_dir) in
+      live-tree high (valid-at journal index) root.path kept.node kept.is kept.same_dir ∙ kept.same ∙ sym (live-tree low (valid-at journal span.low) root.path kept.node kept.was kept.same_dir) in
       let copied : copied_tree high.members snapshot ≡ copied_tree low.members snapshot =
-      copied-with high.members snapshot member (snapshots-last journal span span.high snapshot member within stays has) ∙ sym (copied-with low.members snapshot member has) in
+      copied-with high.members snapshot member (snapshots-last journal span index snapshot member within stays has) ∙ sym (copied-with low.members snapshot member has) in
       λ i. report (cond (snapshot.0 == 0) (below i) (copied i)) (below i)

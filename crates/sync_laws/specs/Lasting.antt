@@ -10,7 +10,7 @@ use Rattle.hs_plain.specs.declared.state.State.{State}
 use Rattle.hs_plain.specs.Tree.{node_at, subtree}
 use Rattle.hs_plain.specs.State.{member_named, member_with, snapshot_named}
 use Rattle.hs_plain.specs.Modifying.{live_path}
-use Rattle.hs_plain.specs.Reading.{is_live, snapshottable_at, lines_between}
+use Rattle.hs_plain.specs.Reading.{is_live, is_deleted, snapshottable_at, lines_between}
 use Rattle.hs_plain.specs.Change.{is_accepted}
 use Rattle.hs_plain.specs.Replay.{plain_after}
 use Rattle.hs_plain.specs.Frozen.{is_snap_del}
@@ -31,6 +31,11 @@ abbrev pub SnapshotsLast : Type 0
 SnapshotsLast = (journal : List Entry) (span : Span) (index : ℕ) (snapshot : SnapId) (member : Member (List ℕ)) → IsWithin span index → Stays journal span snapshot →
     member_with (state_at journal span.low).members snapshot ≡ Ok member → member_with (state_at journal index).members snapshot ≡ Ok member
 
+-- so a cursor with its id is never gone
+abbrev pub StaysNeverGone : Type 0
+StaysNeverGone = (journal : List Entry) (span : Span) (index : ℕ) (snapshot : SnapId) (member : Member (List ℕ)) → IsWithin span index → Stays journal span snapshot →
+    member_with (state_at journal span.low).members snapshot ≡ Ok member → is_deleted (state_at journal index) snapshot ≡ false
+
 -- and its name is its own throughout
 abbrev pub NamesLast : Type 0
 NamesLast = (journal : List Entry) (span : Span) (index : ℕ) (dir : InodeId) (name : List ℕ) (member : Member (List ℕ)) → IsWithin span index → Stays journal span member.snapshot →
@@ -47,11 +52,15 @@ RootsLast = (journal : List Entry) (span : Span) (index : ℕ) (text : List ℕ)
     member_with (state_at journal span.low).members snapshot ≡ Ok member → member.directory ≡ dir → snapshottable_at (state_at journal span.low) text ≡ Ok dir → snapshottable_at (state_at journal index) text ≡ Ok dir
 
 -- together: a path and a name lead to the very same snapshot throughout
-abbrev pub MembersLast : Type 0
-MembersLast = (journal : List Entry) (span : Span) (index : ℕ) (text name : List ℕ) (member : Member (List ℕ)) → IsWithin span index → Stays journal span member.snapshot →
+abbrev pub MemberLasts : Type 0
+MemberLasts = (journal : List Entry) (span : Span) (index : ℕ) (text name : List ℕ) (member : Member (List ℕ)) → IsWithin span index → Stays journal span member.snapshot →
     member_at (state_at journal span.low) text name ≡ Ok member → member_at (state_at journal index) text name ≡ Ok member
 
 -- ---- a directory that no entry touches
+
+-- a span up to an index in it
+abbrev pub front_of : Span → ℕ → Span
+front_of span index = record { low = span.low; high = index }
 
 -- no entry in a span touches the directory of this text
 abbrev pub IsUntouched : List Entry → Span → List ℕ → Type 0
@@ -65,17 +74,17 @@ pub record IsSameBelow (before after : State (List ℕ)) (path : Names) (dir : I
   pub same_dir : node.id ≡ dir
   pub same : subtree after.tree path ≡ subtree before.tree path
 
--- a directory with a snapshot that stays, and that no entry touches, keeps its tree
+-- a directory with a snapshot that stays keeps its tree up to an index before which no entry touches it
 abbrev pub UntouchedTreesStay : Type 0
-UntouchedTreesStay = (journal : List Entry) (span : Span) (text : List ℕ) (path : Names) (dir : InodeId) (snapshot : SnapId) (member : Member (List ℕ)) → span.low ≤ span.high → Stays journal span snapshot → IsUntouched journal span text →
+UntouchedTreesStay = (journal : List Entry) (span : Span) (index : ℕ) (text : List ℕ) (path : Names) (dir : InodeId) (snapshot : SnapId) (member : Member (List ℕ)) → IsWithin span index → Stays journal span snapshot → IsUntouched journal (front_of span index) text →
     member_with (state_at journal span.low).members snapshot ≡ Ok member → member.directory ≡ dir → snapshottable_at (state_at journal span.low) text ≡ Ok dir → live_path text ≡ Ok path →
-    IsSameBelow (state_at journal span.low) (state_at journal span.high) path dir
+    IsSameBelow (state_at journal span.low) (state_at journal index) path dir
 
 -- so the report from the snapshot to the current state stays
 abbrev pub UntouchedReportsStay : Type 0
-UntouchedReportsStay = (journal : List Entry) (span : Span) (text : List ℕ) (dir : InodeId) (snapshot : SnapId) (member : Member (List ℕ)) → span.low ≤ span.high → Stays journal span snapshot → IsUntouched journal span text →
+UntouchedReportsStay = (journal : List Entry) (span : Span) (index : ℕ) (text : List ℕ) (dir : InodeId) (snapshot : SnapId) (member : Member (List ℕ)) → IsWithin span index → Stays journal span snapshot → IsUntouched journal (front_of span index) text →
     member_with (state_at journal span.low).members snapshot ≡ Ok member → member.directory ≡ dir → snapshottable_at (state_at journal span.low) text ≡ Ok dir →
-    lines_between (state_at journal span.high) dir snapshot now ≡ lines_between (state_at journal span.low) dir snapshot now
+    lines_between (state_at journal index) dir snapshot now ≡ lines_between (state_at journal span.low) dir snapshot now
 
 -- ---- a snapshot that is gone
 
@@ -92,3 +101,8 @@ pub record WasDeleted (journal : List Entry) (span : Span) (snapshot : SnapId) :
 abbrev pub TakenWasDeleted : Type 0
 TakenWasDeleted = (journal : List Entry) (span : Span) (snapshot : SnapId) (member : Member (List ℕ)) → span.low ≤ span.high →
     member_with (state_at journal span.low).members snapshot ≡ Ok member → is_live (state_at journal span.high).members snapshot ≡ false → WasDeleted journal span snapshot
+
+-- so it was where a cursor with its id is gone
+abbrev pub GoneWasDeleted : Type 0
+GoneWasDeleted = (journal : List Entry) (span : Span) (snapshot : SnapId) (member : Member (List ℕ)) → span.low ≤ span.high →
+    member_with (state_at journal span.low).members snapshot ≡ Ok member → is_deleted (state_at journal span.high) snapshot ≡ true → WasDeleted journal span snapshot

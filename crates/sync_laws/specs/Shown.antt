@@ -97,9 +97,11 @@ FirstLinesBetween = (state : State (List ℕ)) (dir : InodeId) (from to : SnapId
 abbrev pub frozen : InodeId → SnapId → Place
 frozen id snapshot = places.Frozen id snapshot
 
+-- a cursor into a list of items there
 abbrev pub list_from : InodeId → SnapId → Option (List ℕ) → ListCursor
 list_from id snapshot after = record { place = frozen id snapshot; after = after }
 
+-- a cursor into the bytes there
 abbrev pub read_from : InodeId → SnapId → ℕ → ReadCursor
 read_from id snapshot offset = record { place = frozen id snapshot; offset = offset }
 

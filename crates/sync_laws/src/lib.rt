@@ -1,12 +1,13 @@
 //! Laws of what lasts while a sync is at work: functions without a body, each for its contract.
 #![tactic(auto)]
 
-ghost use Rattle.sync_laws.specs.Lasting.{SnapshotsLast, NamesLast, NamedIdsLast, RootsLast, MembersLast, UntouchedTreesStay, UntouchedReportsStay, TakenWasDeleted};
+ghost use Rattle.sync_laws.specs.Lasting.{SnapshotsLast, StaysNeverGone, NamesLast, NamedIdsLast, RootsLast, MemberLasts, UntouchedTreesStay, UntouchedReportsStay, TakenWasDeleted, GoneWasDeleted};
 ghost use Rattle.sync_laws.specs.Shown.{SnapsAreShown, SnapsAreOk, ReportsBetween, ReportsToNow, FirstLinesToNow, FirstLinesBetween, FrozenDirsAreListed, FrozenFilesAreRead, ListsAreGone, ReadsAreGone, ReportsAreGone};
 
 /// A snapshot that no entry takes away or gives another name is there throughout a span of the journal, with its name.
 pub fn snapshots_last()
     ensures by_id { SnapshotsLast }
+    ensures never_gone { StaysNeverGone }
     ensures by_name { NamesLast }
     ensures name { NamedIdsLast }
 {}
@@ -15,7 +16,7 @@ pub fn snapshots_last()
 /// nor can one above it be deleted or renamed.
 pub fn roots_last()
     ensures root { RootsLast }
-    ensures member { MembersLast }
+    ensures member { MemberLasts }
 {}
 
 /// A directory with a snapshot that stays keeps its tree while no entry touches it, and with it its report since the snapshot.
@@ -24,9 +25,10 @@ pub fn untouched_stays()
     ensures report { UntouchedReportsStay }
 {}
 
-/// Where a snapshot is gone, an accepted entry deleted it.
+/// Where a snapshot isn't there any more, or a cursor with its id is gone, an accepted entry deleted it.
 pub fn taken_was_deleted()
-    ensures { TakenWasDeleted }
+    ensures taken { TakenWasDeleted }
+    ensures gone { GoneWasDeleted }
 {}
 
 /// A list of a directory's snapshots has each name's id, and is shown where a snapshottable directory is at the path.
