@@ -6,5 +6,5 @@ pub mod copying;
 pub mod writing;
 
 pub use copied::{Copied, Look, Made};
-pub use copying::copy_one;
+pub use copying::{change, copy_one};
 pub use writing::{is_ok_reply, write};
