@@ -1,3 +1,4 @@
 pub mod Calling
 pub mod Replies
 mod Paging
+mod CopyCalls

@@ -3,6 +3,7 @@
 
 pub mod copied;
 pub mod copying;
+pub mod laws;
 pub mod writing;
 
 pub use copied::{Copied, Look, Made};
