@@ -2,3 +2,5 @@ pub mod Calling
 pub mod Replies
 mod Paging
 mod CopyCalls
+mod CopyPages
+mod CopyFronts
