@@ -1,5 +1,6 @@
 pub mod Commands
 pub mod Faults
+pub mod Generator
 pub mod Headings
 pub mod Numbers
 pub mod Order

@@ -3,7 +3,10 @@
 
 pub mod command;
 mod command_word;
+mod draws;
 pub mod fault;
+mod generated;
+pub mod generator;
 mod headings;
 mod line;
 mod numbers;
@@ -14,5 +17,6 @@ mod words;
 
 pub use command::{Command, Pages, PagesKind};
 pub use fault::{FaultKind, ReadScriptFault, ScriptFault};
+pub use generator::generate;
 pub use reader::read;
 pub use script::{Script, ScriptLine, Section};
