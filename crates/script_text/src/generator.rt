@@ -65,12 +65,7 @@ fn add_dirs(
 }
 
 /// Brings the target to a snapshot of the source, and takes the same snapshot there.
-fn add_sync(
-    alloc: Global,
-    commands: &mut List<Command>,
-    from: u32,
-    to: u32,
-) -> Result<(), NoMemory>
+fn add_sync(alloc: Global, commands: &mut List<Command>, from: u32, to: u32) -> Result<(), NoMemory>
     ensures { OnOk result (commands.new ≡ commands.old ++ sync_commands from to) }
 {
     commands.push(roots_synced(alloc, from, to)?)?;
@@ -123,6 +118,7 @@ fn add_rounds(
 ) -> Result<(), NoMemory>
     requires dirs { 1 ≤ dirs }
     requires files { 1 ≤ files }
+    requires snaps { 2 ≤ snaps }
     ensures { OnOk result (commands.new ≡ commands.old ++ flat_map (plain_round seed dirs files) (range_with_len 2 (snaps - 2))) }
 {
     let mut draws = Draws::start(seed);
@@ -160,7 +156,7 @@ fn add_all(
 
 /// Gives each command the number of its line, from 1.
 fn numbered(alloc: Global, commands: List<Command>) -> Result<List<ScriptLine>, NoMemory>
-    requires { length commands ≤ 16777216 }
+    requires { length commands ≤ u32.MAX }
     ensures { IfOk result (λ lines. lines ≡ plain_numbered 1 commands) }
 {
     let mut lines = List::new(alloc);
