@@ -1,4 +1,5 @@
 pub mod Texts
+pub mod Worked
 pub mod Generating
 pub mod Lines
 pub mod Order

@@ -7,3 +7,4 @@ pub mod Order
 pub mod Scripts
 pub mod Today
 pub mod Words
+pub mod Worked

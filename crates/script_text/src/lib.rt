@@ -8,6 +8,7 @@ pub mod fault;
 mod generated;
 pub mod generator;
 mod headings;
+pub mod laws;
 mod line;
 mod numbers;
 pub mod reader;
