@@ -1,0 +1,2 @@
+-- Definitions that serve proofs and private contracts alone.
+pub mod Trace
