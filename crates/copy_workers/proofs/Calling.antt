@@ -48,7 +48,7 @@ is_write old new call before after told called named = record {
 
 -- ---- how a call ends the work
 
-and_false : (b : Bool) → (b && false) ≡ false
+pub and_false : (b : Bool) → (b && false) ≡ false
 and_false true = refl
 and_false false = refl
 
@@ -56,7 +56,7 @@ and_false false = refl
 pub refused_write : (old new : Known) (call : Call) (before after : List Made) (told : Answered) → is_ok_reply told.reply ≡ false → IsWrite old new call before after told → IsChange old new call before after (Err (look_at Target old.caller told))
 refused_write old new call before after told isnt write = (by_reply refl isnt write.called, write.named)
 
-none_named : (left : Bool) → left ≡ false → (made : Made) → option_to_list (if left then Some made else None) ≡ []
+pub none_named : (left : Bool) → left ≡ false → (made : Made) → option_to_list (if left then Some made else None) ≡ []
 none_named true e made = absurd (cc)
 none_named false e made = refl
 

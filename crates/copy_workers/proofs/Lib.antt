@@ -1,3 +1,6 @@
 pub mod Calling
 pub mod Replies
 mod Paging
+mod CopyCalls
+mod CopyPages
+mod CopyFronts

@@ -25,10 +25,10 @@ use Rattle.copy_workers.specs.Copying.{ReadOn, is_filled, filled, wanted, beginn
 use Rattle.copy_workers.specs.inside.Pages.{ended_by, IsPage, IsAppended, IsPageCopied, IsUpTo}
 use Rattle.copy_workers.proofs.Calling.{made_caller, wanted_write}
 
-abbrev IsWell : Said → Type 0
+abbrev pub IsWell : Said → Type 0
 IsWell said = is_ok_reply said.told.reply ≡ true
 
-all_snoc : (P : Said → Type 0) (list : List Said) (last : Said) → AllByRecursion P list → P last → AllByRecursion P (list ++ last ∷ [])
+pub all_snoc : (P : Said → Type 0) (list : List Said) (last : Said) → AllByRecursion P list → P last → AllByRecursion P (list ++ last ∷ [])
 all_snoc P [] last all here = (here, tt)
 all_snoc P (said ∷ list) last all here = (all.0, all_snoc P list last all.1 here)
 
@@ -46,7 +46,7 @@ filled_snoc reads last = ap (filter is_filled) (map-append shown reads (last ∷
 wanted_snoc : (path : List ℕ) (reads : List Said) (last : Said) → wanted path (reads ++ last ∷ []) ≡ wanted path reads ++ map (calls.Append path) (filled (last ∷ []))
 wanted_snoc path reads last = ap (λ (pages : List (List ℕ)). calls.Create path true ∷ map (calls.Append path) pages) (filled_snoc reads last) ∙ ap (λ (more : List Call). calls.Create path true ∷ more) (map-append (calls.Append path) (filled reads) (filled (last ∷ [])))
 
-wants_append : (path : List ℕ) (reads : List Said) (last : Said) (bytes : List ℕ) → shown last ≡ bytes → wanted path (reads ++ last ∷ []) ≡ wanted path reads ++ map (calls.Append path) (filter is_filled (bytes ∷ []))
+pub wants_append : (path : List ℕ) (reads : List Said) (last : Said) (bytes : List ℕ) → shown last ≡ bytes → wanted path (reads ++ last ∷ []) ≡ wanted path reads ++ map (calls.Append path) (filter is_filled (bytes ∷ []))
 wants_append path reads last bytes is = wanted_snoc path reads last ∙ ap (λ (b : List ℕ). wanted path reads ++ map (calls.Append path) (filter is_filled (b ∷ []))) is
 
 named_one : (f : Said → Option Made) (last : Said) → filter_map f (last ∷ []) ≡ option_to_list (f last)
@@ -58,7 +58,7 @@ named_one f last = by (f last)
 
 -- a call more at the target
 module _ (target new then : Known) (call : Call) (before after : List Made) (told : Answered) (writes : List Said) where
-  named_more : AreMade target new writes → before ≡ filter_map (made_by target.caller) writes → IsWrite new then call before after told → after ≡ filter_map (made_by target.caller) (writes ++ said_by then call told ∷ [])
+  pub named_more : AreMade target new writes → before ≡ filter_map (made_by target.caller) writes → IsWrite new then call before after told → after ≡ filter_map (made_by target.caller) (writes ++ said_by then call told ∷ [])
   named_more written named write =
       let last : Said = said_by then call told in
       write.named

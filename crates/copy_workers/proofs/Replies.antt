@@ -44,15 +44,15 @@ of_kind kind blank call machine old new told called isnt = by (is_plain_reply to
 
 -- ---- pages of a file
 
-cursor-blank : (reply : Reply) → read_cursor (blanked reply) ≡ read_cursor reply
+pub cursor-blank : (reply : Reply) → read_cursor (blanked reply) ≡ read_cursor reply
 cursor-blank (replies.Bytes bytes next) = refl
 cursor-blank reply = refl
 
-bytes-blank : (reply : Reply) → is_bytes (blanked reply) ≡ is_bytes reply
+pub bytes-blank : (reply : Reply) → is_bytes (blanked reply) ≡ is_bytes reply
 bytes-blank (replies.Bytes bytes next) = refl
 bytes-blank reply = refl
 
-bytes_plain : (reply : Reply) → is_bytes reply ≡ true → is_plain_reply reply ≡ true
+pub bytes_plain : (reply : Reply) → is_bytes reply ≡ true → is_plain_reply reply ≡ true
 bytes_plain (replies.Bytes bytes next) e = refl
 bytes_plain reply e = absurd (cc)
 

@@ -31,6 +31,7 @@ pub fn copy_one<L: NameLink>(
 ) -> Copied
     ensures numbers { (L.number source.new ≡ L.number source.old) × (L.number target.new ≡ L.number target.old) }
     ensures alone { (L.alone source.new ≡ L.alone source.old) × (L.alone target.new ≡ L.alone target.old) }
+    ensures stays { (L.stays source.old source.new) × (L.stays target.old target.new) }
     ensures copy { IsCopy number job.now snap target_root.now (L.known source.old) (L.known source.new) (L.known target.old) (L.known target.new) result }
 {
     let mut made = Vec::new(alloc);
@@ -54,6 +55,7 @@ fn copy_file<L: NameLink>(
     requires none { made.old.items ≡ [] }
     ensures numbers { (L.number source.new ≡ L.number source.old) × (L.number target.new ≡ L.number target.old) }
     ensures alone { (L.alone source.new ≡ L.alone source.old) × (L.alone target.new ≡ L.alone target.old) }
+    ensures stays { (L.stays source.old source.new) × (L.stays target.old target.new) }
     ensures copy { IsCopyTo (text_below target_root.now job.now.to) (places.Frozen job.now.id snap) (L.known source.old) (L.known source.new) (L.known target.old) (L.known target.new) made.new.items (ended_by result) }
 {
     match text_below(alloc, target_root, job.to.items()) {
@@ -73,6 +75,7 @@ fn copy_to<L: NameLink>(
     requires none { made.old.items ≡ [] }
     ensures numbers { (L.number source.new ≡ L.number source.old) × (L.number target.new ≡ L.number target.old) }
     ensures alone { (L.alone source.new ≡ L.alone source.old) × (L.alone target.new ≡ L.alone target.old) }
+    ensures stays { (L.stays source.old source.new) × (L.stays target.old target.new) }
     ensures copy { IsCopyTo path.now place (L.known source.old) (L.known source.new) (L.known target.old) (L.known target.new) made.new.items (ended_by result) }
 {
     create(target, path, made)?;
@@ -93,6 +96,7 @@ fn copy_page<L: NameLink>(
 ) -> Result<Option<ReadCursor>, Look>
     ensures numbers { (L.number source.new ≡ L.number source.old) × (L.number target.new ≡ L.number target.old) }
     ensures alone { (L.alone source.new ≡ L.alone source.old) × (L.alone target.new ≡ L.alone target.old) }
+    ensures stays { (L.stays source.old source.new) × (L.stays target.old target.new) }
     ensures page { IsPageCopied path.now cursor (L.known source.old) (L.known source.new) (L.known target.old) (L.known target.new) made.old.items made.new.items result }
 {
     let Page { bytes, next } = read_page(source, cursor)?;
@@ -110,6 +114,7 @@ struct Page {
 fn read_page<L: NameLink>(source: &mut L, cursor: ReadCursor) -> Result<Page, Look>
     ensures number { L.number source.new ≡ L.number source.old }
     ensures alone { L.alone source.new ≡ L.alone source.old }
+    ensures stays { L.stays source.old source.new }
     ensures page { IsPageRead (L.known source.old) (L.known source.new) cursor result }
 {
     let caller = source.caller();
@@ -138,6 +143,7 @@ fn read_page<L: NameLink>(source: &mut L, cursor: ReadCursor) -> Result<Page, Lo
 fn create<L: NameLink>(target: &mut L, path: &PathText, made: &mut Vec<Made>) -> Result<(), Look>
     ensures number { L.number target.new ≡ L.number target.old }
     ensures alone { L.alone target.new ≡ L.alone target.old }
+    ensures stays { L.stays target.old target.new }
     ensures created { IsChange (L.known target.old) (L.known target.new) (calls.Create path.now true) made.old.items made.new.items result }
 {
     match path.copy() {
@@ -155,6 +161,7 @@ fn append_page<L: NameLink>(
 ) -> Result<(), Look>
     ensures number { L.number target.new ≡ L.number target.old }
     ensures alone { L.alone target.new ≡ L.alone target.old }
+    ensures stays { L.stays target.old target.new }
     ensures appended { IsAppended (L.known target.old) (L.known target.new) path.now bytes made.old.items made.new.items result }
 {
     if bytes.bytes().is_empty() {
@@ -166,10 +173,11 @@ fn append_page<L: NameLink>(
     }
 }
 
-/// Makes a call at the target, where any reply but an Ok reply ends the copy.
-fn change<L: NameLink>(target: &mut L, call: Call, made: &mut Vec<Made>) -> Result<(), Look>
+/// Makes a call at the target, where any reply but an Ok reply ends the work.
+pub fn change<L: NameLink>(target: &mut L, call: Call, made: &mut Vec<Made>) -> Result<(), Look>
     ensures number { L.number target.new ≡ L.number target.old }
     ensures alone { L.alone target.new ≡ L.alone target.old }
+    ensures stays { L.stays target.old target.new }
     ensures changed { IsChange (L.known target.old) (L.known target.new) call made.old.items made.new.items result }
 {
     let caller = target.caller();

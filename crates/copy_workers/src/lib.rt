@@ -3,8 +3,9 @@
 
 pub mod copied;
 pub mod copying;
+pub mod laws;
 pub mod writing;
 
 pub use copied::{Copied, Look, Made};
-pub use copying::copy_one;
+pub use copying::{change, copy_one};
 pub use writing::{is_ok_reply, write};

@@ -23,6 +23,7 @@ pub fn write<L: NameLink>(
 ) -> Result<Answered, NoMemory>
     ensures number { L.number link.new ≡ L.number link.old }
     ensures alone { L.alone link.new ≡ L.alone link.old }
+    ensures stays { L.stays link.old link.new }
     ensures written { IfOk result (IsWrite (L.known link.old) (L.known link.new) call made.old.items made.new.items) }
     ensures same { OnErr result (L.known link.new ≡ L.known link.old) }
     ensures none { OnErr result (made.new.items ≡ made.old.items) }

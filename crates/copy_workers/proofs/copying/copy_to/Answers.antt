@@ -22,6 +22,8 @@ loop-next-init g c =
       target_number = c.create.ensures.number;
       source_alone = refl;
       target_alone = c.create.ensures.alone;
+      source_stays = g.met.L.NameLink.stays_first c.args.source.now;
+      target_stays = c.create.ensures.stays;
       copied = upto_begun c.args.path.now c.args.place source target then c.args.made.now.items c.create.new.made.items c.requires.none c.in_ok-create.ensures.created;
     }
 
@@ -51,6 +53,8 @@ loop-next-preserved g c =
       target_number = c.copy_page.ensures.numbers.1 ∙ c.loop-next.invariant.target_number;
       source_alone = c.copy_page.ensures.alone.0 ∙ c.loop-next.invariant.source_alone;
       target_alone = c.copy_page.ensures.alone.1 ∙ c.loop-next.invariant.target_alone;
+      source_stays = g.met.L.NameLink.stays_then c.args.source.now c.loop-next.source c.copy_page.new.source c.loop-next.invariant.source_stays c.copy_page.ensures.stays.0;
+      target_stays = g.met.L.NameLink.stays_then c.args.target.now c.loop-next.target c.copy_page.new.target c.loop-next.invariant.target_stays c.copy_page.ensures.stays.1;
       copied = upto_next c.args.path.now c.args.place source now read target new then c.loop-next.made.items c.copy_page.new.made.items c.in-Some.cursor up c.in_ok-next.next c.in_ok-next.ensures.page;
     }
 

@@ -10,6 +10,8 @@ invariant-loop-next g l = record {
   target_number : g.L.NameLink.number l.target ≡ g.L.NameLink.number l.fn.target;
   source_alone : g.L.NameLink.alone l.source ≡ g.L.NameLink.alone l.fn.source;
   target_alone : g.L.NameLink.alone l.target ≡ g.L.NameLink.alone l.fn.target;
+  source_stays : g.L.NameLink.stays l.fn.source l.source;
+  target_stays : g.L.NameLink.stays l.fn.target l.target;
   copied : IsUpTo l.path l.fn.place (g.L.NameLink.known l.fn.source) (g.L.NameLink.known l.source) (g.L.NameLink.known l.fn.target) (g.L.NameLink.known l.target) l.made.items l.next;
 }
 

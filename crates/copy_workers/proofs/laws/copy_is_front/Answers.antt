@@ -1,0 +1,5 @@
+use Rattle.copy_workers.proofs.CopyFronts.{copy_is_front}
+use Rattle.copy_workers.proofs.laws.copy_is_front.Goals as goal
+
+pub returns : goal.returns
+returns c = copy_is_front
