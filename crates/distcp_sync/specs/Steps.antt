@@ -1,5 +1,5 @@
 -- What the steps of a sync are at the two sides: replies that were kept, entries that were made, and the plan that they follow.
-use Rattle.std.specs.Prelude.{◌≡◌, ⊤, ⊥, ℕ, ◌+◌, ◌<◌, ◌≤◌, Bool, true, false, ◌==◌, ◌&&◌, nat_lt, nat_le, if◌then◌else◌, List, [], ◌∷◌, ◌++◌, map, length, take, slice_get, Option, Some, None, Ok}
+use Rattle.std.specs.Prelude.{◌≡◌, ⊤, ℕ, ◌+◌, ◌<◌, ◌≤◌, Bool, true, false, ◌==◌, ◌&&◌, nat_lt, nat_le, if◌then◌else◌, List, [], ◌∷◌, ◌++◌, map, length, take, slice_get, Option, Some, None, Ok}
 use Rattle.std.specs.List.{flat_map}
 use Rattle.hs_types.specs.declared.ids.CallerId.{CallerId}
 use Rattle.hs_types.specs.declared.ids.Side.{Side}
@@ -12,12 +12,12 @@ use Rattle.hs_types.specs.declared.journal.EntryKind.TheVariants.{Accepted, Faul
 use Rattle.hs_plain.specs.declared.state.Member.{Member}
 use Rattle.hs_plain.specs.declared.state.State.{State}
 use Rattle.hs_plain.specs.declared.plan.Plan.{Plan}
-use Rattle.hs_plain.specs.Answer.{blank}
 use Rattle.hs_plain.specs.Legal.{IsLegalCall}
 use Rattle.hs_plain.specs.Replay.{plain_after}
 use Rattle.hs_plain.specs.Span.{is_one_of}
 use Rattle.hs_plain.specs.Premises.{SyncAsk, SyncSide}
 use Rattle.hs_plain.specs.Plan.{plan_of, plan_calls, root_names}
+use Rattle.copy_workers.specs.CopyLaws.{claimed_call}
 use Rattle.copy_workers.specs.declared.copied.Made.{Made}
 use Rattle.copy_workers.specs.declared.copied.Look.{Look}
 use Rattle.copy_workers.specs.declared.copied.Copied.{Copied}
@@ -86,15 +86,6 @@ places_in side = own_places side.callers side.span.low side.span.high 0 side.jou
 -- the plan of a sync from the source's copied trees and from the target's
 abbrev pub plan_between : Member (List ℕ) → Member (List ℕ) → Member (List ℕ) → Plan
 plan_between from to base = plan_of from.tree to.tree (root_names base.tree)
-
--- a call but for the bytes that it appends
-abbrev pub blanked_call : Call → Call
-blanked_call (calls.Append path bytes) = calls.Append path (blank bytes)
-blanked_call call = call
-
--- what is claimed of a call of the plan: all of it where the source tells its bytes, and else all but the bytes
-abbrev pub claimed_call : Bool → Call → Call
-claimed_call tells call = if tells then call else blanked_call call
 
 -- this call comes next
 abbrev pub IsNext : Bool → List Call → Call → Type 0

@@ -1,5 +1,5 @@
 -- What a sync did, as its report tells it and both journals show: each answer has its cause.
-use Rattle.std.specs.Prelude.{◌≡◌, ◌≢◌, ◌⊎◌, ⊤, ⊥, ℕ, Bool, true, false, List, [], ◌∷◌, map, slice_get, Option, Some, None, Result, Ok, Err}
+use Rattle.std.specs.Prelude.{◌≡◌, ◌≢◌, ◌⊎◌, ⊤, ℕ, Bool, true, false, List, [], ◌∷◌, ◌++◌, ◌+◌, length, map, slice_get, Option, Some, None, Result, Ok, Err}
 use Rattle.hs_types.specs.declared.ids.InodeId.{InodeId}
 use Rattle.hs_types.specs.declared.ids.Side.{Side}
 use Rattle.hs_types.specs.declared.ids.Side.TheVariants.{Source, Target}
@@ -80,7 +80,7 @@ module _ (ask : SyncAsk) (page : ℕ) (sides : SyncSides) (report : SyncReport) 
     pub copies : are_numbered 0 report.copies ≡ true
 
   -- the reply that ended a sync, and that is no copy's: of a page of the source's report, of a listing, or of the next call of the plan
-  data pub IsLastLook (start : SyncStart) (one two : Look) (trees : HasTrees start one two) (made : HasMade start one two trees) (look : Look) : Type 0 where
+  pub data IsLastLook (start : SyncStart) (one two : Look) (trees : HasTrees start one two) (made : HasMade start one two trees) (look : Look) : Type 0 where
     lines : (cursor : ReportCursor) → cursor.root ≡ start.source → cursor.from ≡ start.from → cursor.to ≡ start.to → made.made ≡ [] →
         IsHeard sides Source (calls.ReportNext cursor page) look → IsLastLook start one two trees made look
     names : (after : Option (List ℕ)) → made.made ≡ [] →
@@ -91,14 +91,14 @@ module _ (ask : SyncAsk) (page : ℕ) (sides : SyncSides) (report : SyncReport) 
         IsHeard sides Target call look → IsLastLook start one two trees made look
 
   -- what ended the copies: want of memory for a call that wasn't made, a read of the file of the last job, or the next call of the plan
-  data pub IsCopyLook (start : SyncStart) (one two : Look) (trees : HasTrees start one two) (made : HasMade start one two trees) (look : Look) : Type 0 where
+  pub data IsCopyLook (start : SyncStart) (one two : Look) (trees : HasTrees start one two) (made : HasMade start one two trees) (look : Look) : Type 0 where
     by_memory : look ≡ wanting_of look.side look.caller → IsCopyLook start one two trees made look
     by_read : (number offset : ℕ) (job : CopyJob) → slice_get (jobs start one two trees) number ≡ Some job → length report.copies ≡ number + 1 →
         IsHeard sides Source (calls.ReadNext (record { place = places.Frozen job.id start.to; offset = offset }) 65536) look → IsCopyLook start one two trees made look
     by_write : (call : Call) → IsNext sides.source_tells made.rest call → IsHeard sides Target call look → IsCopyLook start one two trees made look
 
   -- a sync that no reply ended
-  data pub EndsAlone (start : SyncStart) (one two : Look) (trees : HasTrees start one two) (made : HasMade start one two trees) : Type 0 where
+  pub data EndsAlone (start : SyncStart) (one two : Look) (trees : HasTrees start one two) (made : HasMade start one two trees) : Type 0 where
     -- all calls of the plan were accepted
     done : report.answer ≡ answers.Done → made.rest ≡ [] → made.faulted ≡ [] → length report.copies ≡ length (jobs start one two trees) → EndsAlone start one two trees made
     -- the first path of the plan's calls that passes a limit
@@ -106,7 +106,7 @@ module _ (ask : SyncAsk) (page : ℕ) (sides : SyncSides) (report : SyncReport) 
     wanting : report.answer ≡ answers.NoMemory → EndsAlone start one two trees made
 
   -- the answer is that of the reply that ended the sync, or of the copy that ended badly
-  Ended : (start : SyncStart) (one two : Look) (trees : HasTrees start one two) → HasMade start one two trees → List Look → Option Look → Type 0
+  abbrev pub Ended : (start : SyncStart) (one two : Look) (trees : HasTrees start one two) → HasMade start one two trees → List Look → Option Look → Type 0
   Ended start one two trees made [] None = EndsAlone start one two trees made
   Ended start one two trees made [] (Some look) = IsCopyLook start one two trees made look × (is_ok_reply look.reply.reply ≡ false) × OrNoMemory (answer_at look) report.answer
   Ended start one two trees made (look ∷ []) None = IsLastLook start one two trees made look × (is_ok_reply look.reply.reply ≡ false) × OrNoMemory (answer_at look) report.answer
@@ -126,35 +126,35 @@ module _ (ask : SyncAsk) (page : ℕ) (sides : SyncSides) (report : SyncReport) 
     pub ends : EndsUnmade sides report expected
 
   -- a target that was changed since its `from` is left as it is
-  ByChange : SyncStart → Look → Look → List Look → List Line → Type 0
+  abbrev pub ByChange : SyncStart → Look → Look → List Look → List Line → Type 0
   ByChange start one two looks [] = HasWorked start one two looks
   ByChange start one two looks (line ∷ lines) = EndsAtLast looks (answers.TargetChanged line)
 
-  AfterThird : SyncStart → Look → Look → Look → List Look → Bool → Type 0
+  abbrev pub AfterThird : SyncStart → Look → Look → Look → List Look → Bool → Type 0
   AfterThird start one two three looks true = ByChange start one two looks (lines_shown three.reply.reply)
   AfterThird start one two three looks false = EndsAtLast looks (answer_at three)
 
   -- the target's report from its `from` to now
-  Third : Look → Look → List Look → Result SyncStart SyncAnswer → Type 0
+  abbrev pub Third : Look → Look → List Look → Result SyncStart SyncAnswer → Type 0
   Third one two looks (Err answer) = EndsAtLast looks answer
   Third one two [] (Ok start) = EndsUnmade sides report answers.NoMemory
   Third one two (three ∷ looks) (Ok start) = IsHeard sides Target (unchanged_call start) three × AfterThird start one two three looks (is_ok_reply three.reply.reply)
 
-  AfterSecond : Look → Look → List Look → Bool → Type 0
+  abbrev pub AfterSecond : Look → Look → List Look → Bool → Type 0
   AfterSecond one two looks true = Third one two looks (begun ask one.reply.reply two.reply.reply)
   AfterSecond one two looks false = EndsAtLast looks (root_answer Target two.reply.reply)
 
   -- the snapshots of the target's root
-  Second : Look → List Look → Bool → Type 0
+  abbrev pub Second : Look → List Look → Bool → Type 0
   Second one looks false = EndsAtLast looks (root_answer Source one.reply.reply)
   Second one [] true = EndsUnmade sides report answers.NoMemory
   Second one (two ∷ looks) true = IsHeard sides Target (calls.Snaps ask.target_root) two × AfterSecond one two looks (is_ok_reply two.reply.reply)
 
   -- the snapshots of the source's root come first
-  First : List Look → Type 0
+  abbrev pub First : List Look → Type 0
   First [] = EndsUnmade sides report answers.NoMemory
   First (one ∷ looks) = IsHeard sides Source (calls.Snaps ask.source_root) one × Second one looks (is_ok_reply one.reply.reply)
 
   -- a sync did what its report tells
-  pub IsSynced : Type 0
+  abbrev pub IsSynced : Type 0
   IsSynced = First report.looks

@@ -2,6 +2,7 @@
 #![tactic(auto)]
 
 pub mod answer;
+mod fetching;
 pub mod report;
 pub mod start;
 pub mod syncing;
