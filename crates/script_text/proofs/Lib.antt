@@ -5,4 +5,3 @@ pub mod Digits
 pub mod FewWords
 pub mod Keywords
 pub mod Results
-pub mod Todays

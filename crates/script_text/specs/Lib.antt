@@ -4,5 +4,4 @@ pub mod Headings
 pub mod Numbers
 pub mod Order
 pub mod Scripts
-pub mod Today
 pub mod Words
