@@ -1,8 +1,10 @@
 pub mod Commands
 pub mod Faults
+pub mod Generator
 pub mod Headings
 pub mod Numbers
 pub mod Order
 pub mod Scripts
 pub mod Today
 pub mod Words
+pub mod Worked
