@@ -1,4 +1,6 @@
 pub mod Texts
+pub mod Worked
+pub mod Generating
 pub mod Lines
 pub mod Order
 pub mod Digits

@@ -1,7 +1,9 @@
 pub mod Commands
 pub mod Faults
+pub mod Generator
 pub mod Headings
 pub mod Numbers
 pub mod Order
 pub mod Scripts
 pub mod Words
+pub mod Worked

@@ -3,8 +3,12 @@
 
 pub mod command;
 mod command_word;
+mod draws;
 pub mod fault;
+mod generated;
+pub mod generator;
 mod headings;
+pub mod laws;
 mod line;
 mod numbers;
 pub mod reader;
@@ -14,5 +18,6 @@ mod words;
 
 pub use command::{Command, Pages, PagesKind};
 pub use fault::{FaultKind, ReadScriptFault, ScriptFault};
+pub use generator::generate;
 pub use reader::read;
 pub use script::{Script, ScriptLine, Section};

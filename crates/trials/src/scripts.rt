@@ -1,6 +1,6 @@
 //! Scripts and what is read from them.
 use hs_types::{Call, PathText, Side};
-use script_text::{Command, Pages, Script, ScriptLine, Section, read};
+use script_text::{Command, Pages, Script, ScriptLine, Section, generate, read};
 use std::alloc::Global;
 use std::fmt::Write;
 use std::test::Fail;
@@ -366,5 +366,37 @@ fn counts_clients(rt: HostRuntime) -> Result<(), Fail> {
     );
     assert!(rt; is_read_as(rt.alloc(), b"s ls /\xFF", "script line 1: Utf8")?);
     assert!(rt; is_read_as(rt.alloc(), b"\xFF ls /", "script line 1: Command")?);
+    Ok(())
+}
+
+/// The lines of a generated script that stand behind line 229, with the number of all.
+fn print_rounds(alloc: Global, out: &mut String) -> Result<(), Fail> {
+    let script = generate(alloc, 7, 20, 10, 5)?;
+    for line in script.lines() {
+        if line.line > 229 {
+            print_line(line, out)?;
+        }
+    }
+    Ok(write!(out, "lines {}", script.lines().len())?)
+}
+
+fn are_rounds(alloc: Global, want: &str) -> Result<bool, Fail> {
+    let mut out = String::new(alloc);
+    print_rounds(alloc, &mut out)?;
+    Ok(out.as_str() == want)
+}
+
+#[test]
+fn generates_rounds(rt: HostRuntime) -> Result<(), Fail> {
+    assert!(rt;
+        are_rounds(
+            rt.alloc(),
+            "230- s append \"/r/d19/f9\" 1 [50]; 231- s create \"/r/d12/k2\" false; 232- s rename \"/r/d12/k2\" \"/r/d5/m2\"; \
+         233- s snap \"/r\" \"n2\"; 234- s append \"/r/d1/f2\" 1 [51]; 235- s create \"/r/d18/k3\" false; \
+         236- s rename \"/r/d18/k3\" \"/r/d2/m3\"; 237- s delete \"/r/d5/m2\" false; 238- s snap \"/r\" \"n3\"; \
+         239- s append \"/r/d14/f7\" 1 [52]; 240- s create \"/r/d14/k4\" false; 241- s rename \"/r/d14/k4\" \"/r/d16/m4\"; \
+         242- s snap \"/r\" \"n4\"; 243-another command; 244- t snap \"/r\" \"n4\"; lines 244"
+        )?
+    );
     Ok(())
 }
