@@ -10,13 +10,13 @@ use Rattle.std.proofs.lemmas.Str.{IsUtf8-drop, IsCharBoundary-after_ascii, encod
 use Rattle.clap.specs.Words.{Row, Rule, Text, fault_of, matches_of}
 use Rattle.clap.specs.Kinds.{Kinds, or_else}
 use Rattle.clap.specs.Lexer.{long_of, short_of}
-use Rattle.clap.specs.Walk.{Held, Walk, Waiting, idle, option, Step, arg_by_long, arg_by_index, finished, nothing_held, rows_after, settled, to_positional, used, value, after_flag, after_step, long_met, walk, walk_from, walked, word_met}
+use Rattle.clap.specs.Walk.{Held, Walk, Waiting, idle, option, Step, arg_by_long, arg_by_index, finished, nothing_held, rows_after, settled, to_positional, used, value, after_flag, after_step, long_met, is_pending, pushed, walk, walk_from, walked, word_met}
 use Rattle.clap.specs.Faults.{built_fault, check_fault, defaults_fault, flags_fault, level_fault, long_fault, settle_fault, step_fault, turn_fault, use_fault, walk_fault}
 use Rattle.clap.specs.Simple.{names_of}
 use Rattle.clap.specs.declared.error.kind.ErrorKind.TheVariants as kinds
 use Rattle.clap.proofs.FaultLemmas.{leaf_fault}
-use Rattle.hsnap.specs.CommandLine.{Part, mode, page, workers, seed, name_of, Form, ends, option as option_word, option_with, unknown, plain, form_of, option_form, option_named, number_behind, with_number}
-use Rattle.hsnap.proofs.ClapRules.{all_rules, built_app, built_is, by_long, command_app, passing, passing-or_else, rule, shape}
+use Rattle.hsnap.specs.CommandLine.{Part, mode, page, workers, seed, name_of, Form, ends, option as option_word, option_with, unknown, plain, form_of, option_form, hyphen_form, option_named, number_behind, with_number}
+use Rattle.hsnap.proofs.ClapRules.{all_rules, built_app, built_is, by_long, command_app, false-else, passing, passing-or_else, rule, shape}
 
 -- ---- all words
 
@@ -168,5 +168,84 @@ long-found : (xs : List Row) (pending : Option (Text × List Text)) (place : ℕ
 unfolding walked
 long-found xs pending place byte text words = step (idle_walk xs pending place false) (45 ∷ 45 ∷ byte ∷ text) words
 
-pub plain_check : true ≡ true
-plain_check = refl
+and-true : (b : Bool) → (b && true) ≡ b
+and-true true = refl
+and-true false = refl
+
+both_pass : (a b : Kinds) → passing (or_else (or_else a b) []) ≡ (passing a && passing b)
+both_pass [] [] = refl
+both_pass [] (kind ∷ kinds) = refl
+both_pass (kind ∷ kinds) b = refl
+
+-- by the option that the name is of
+long-is : (o : Option Part) (number : Option Text) (xs : List Row) (pending : Option (Text × List Text)) (place : ℕ) (word : Text) (words : List Text)
+    → cond (passing (long_turn (option_map rule o) number word xs pending place)) (found (long_walk (option_map rule o) number word xs pending place) words) None
+    ≡ form_found (with_number o number) xs pending place word words
+long-is None number xs pending place word words = refl
+long-is (Some mode) None xs pending place word words = ap (λ c. cond c (found (option_walk (settled_as xs pending) mode place false) words) None) (passing-or_else (settle_fault all_rules false (record { rows = xs; pending = pending; skip = 0 })) [] ∙ and-true _)
+long-is (Some page) None xs pending place word words = ap (λ c. cond c (found (option_walk (settled_as xs pending) page place false) words) None) (passing-or_else (settle_fault all_rules false (record { rows = xs; pending = pending; skip = 0 })) [] ∙ and-true _)
+long-is (Some workers) None xs pending place word words = ap (λ c. cond c (found (option_walk (settled_as xs pending) workers place false) words) None) (passing-or_else (settle_fault all_rules false (record { rows = xs; pending = pending; skip = 0 })) [] ∙ and-true _)
+long-is (Some seed) None xs pending place word words = ap (λ c. cond c (found (option_walk (settled_as xs pending) seed place false) words) None) (passing-or_else (settle_fault all_rules false (record { rows = xs; pending = pending; skip = 0 })) [] ∙ and-true _)
+long-is (Some mode) (Some number) xs pending place word words = ap (λ c. cond c (found (idle_walk (used (rule mode) (number ∷ []) (settled_as xs pending)) None place false) words) None) (both_pass _ _)
+long-is (Some page) (Some number) xs pending place word words = ap (λ c. cond c (found (idle_walk (used (rule page) (number ∷ []) (settled_as xs pending)) None place false) words) None) (both_pass _ _)
+long-is (Some workers) (Some number) xs pending place word words = ap (λ c. cond c (found (idle_walk (used (rule workers) (number ∷ []) (settled_as xs pending)) None place false) words) None) (both_pass _ _)
+long-is (Some seed) (Some number) xs pending place word words = ap (λ c. cond c (found (idle_walk (used (rule seed) (number ∷ []) (settled_as xs pending)) None place false) words) None) (both_pass _ _)
+
+-- ---- one word, by its form
+
+at-hyphen : (P : ℕ → Type 0) (byte : ℕ) → (byte == 45) ≡ true → P 45 → P byte
+at-hyphen P byte is given = subst P (sym (eqb-true byte 45 is)) given
+
+option-found : (xs : List Row) (pending : Option (Text × List Text)) (place : ℕ) (text : Text) (words : List Text)
+    → found (idle_walk xs pending place false) ((45 ∷ 45 ∷ text) ∷ words) ≡ form_found (option_form text) xs pending place (45 ∷ 45 ∷ text) words
+option-found xs pending place [] words = ends-found xs pending place words
+option-found xs pending place (byte ∷ text) words =
+    let name = before_first (λ one. one == 61) (byte ∷ text) in
+    long-found xs pending place byte text words
+    ∙ (ap (λ a. cond (passing (long_turn a (number_behind (byte ∷ text)) (45 ∷ 45 ∷ byte ∷ text) xs pending place)) (found (long_walk a (number_behind (byte ∷ text)) (45 ∷ 45 ∷ byte ∷ text) xs pending place) words) None) (by_long name)
+    ∙ long-is (option_named name) (number_behind (byte ∷ text)) xs pending place (45 ∷ 45 ∷ byte ∷ text) words)
+
+behind-hyphen : (xs : List Row) (pending : Option (Text × List Text)) (place : ℕ) (text : Text) (words : List Text) → IsUtf8 (45 ∷ text)
+    → found (idle_walk xs pending place false) ((45 ∷ text) ∷ words) ≡ form_found (hyphen_form text) xs pending place (45 ∷ text) words
+behind-hyphen xs pending place [] words spelled = hyphen-found xs pending place words
+behind-hyphen xs pending place (byte ∷ text) words spelled = go (byte == 45) refl
+  where
+    go : (b : Bool) → (byte == 45) ≡ b
+        → found (idle_walk xs pending place false) ((45 ∷ byte ∷ text) ∷ words) ≡ form_found (cond b (option_form text) unknown) xs pending place (45 ∷ byte ∷ text) words
+    go true is = at-hyphen (λ y. found (idle_walk xs pending place false) ((45 ∷ y ∷ text) ∷ words) ≡ form_found (option_form text) xs pending place (45 ∷ y ∷ text) words)
+        byte is (option-found xs pending place text words)
+    go false is = short-found xs pending place byte text words is spelled
+
+pub word-found : (xs : List Row) (pending : Option (Text × List Text)) (place : ℕ) (word : Text) (words : List Text) → IsUtf8 word
+    → found (idle_walk xs pending place false) (word ∷ words) ≡ form_found (form_of word) xs pending place word words
+word-found xs pending place [] words spelled = empty-found xs pending place words
+word-found xs pending place (byte ∷ text) words spelled = go (byte == 45) refl
+  where
+    go : (b : Bool) → (byte == 45) ≡ b
+        → found (idle_walk xs pending place false) ((byte ∷ text) ∷ words) ≡ form_found (cond b (hyphen_form text) plain) xs pending place (byte ∷ text) words
+    go true is = at-hyphen (λ y. IsUtf8 (y ∷ text) → found (idle_walk xs pending place false) ((y ∷ text) ∷ words) ≡ form_found (hyphen_form text) xs pending place (y ∷ text) words)
+        byte is (behind-hyphen xs pending place text words) spelled
+    go false is = plain-found xs pending place byte text words is
+
+-- ---- a word that is taken for the mode
+
+and-false : (b : Bool) → (b && false) ≡ false
+and-false true = refl
+and-false false = refl
+
+abbrev value_walk : List Row → Option (Text × List Text) → Text → Bool → Bool → Walk
+value_walk xs pending word same trailing =
+    let h : Held = record { rows = xs; pending = pending; skip = 0 } in
+    record { held = pushed (name_of mode) word (cond same h (settled all_rules h)); waiting = idle; position = 2; is_trailing = trailing; stopped = None }
+
+-- the first
+pub first-value : (xs : List Row) (pending : Option (Text × List Text)) (trailing : Bool) (word : Text) (words : List Text)
+    → value_found xs pending 1 trailing word words ≡ cond (settles xs pending) (found (idle_walk (settled_as xs pending) (Some (name_of mode, word ∷ [])) 2 trailing) words) None
+first-value xs pending trailing word words =
+    ap (λ b. cond (passing (cond b [] (settle_fault all_rules false (record { rows = xs; pending = pending; skip = 0 })))) (found (value_walk xs pending word b (trailing || false)) words) None) (and-false (is_pending (rule mode) pending))
+    ∙ ap (λ t. cond (settles xs pending) (found (idle_walk (settled_as xs pending) (Some (name_of mode, word ∷ [])) 2 t) words) None) (false-else trailing)
+
+-- no other
+pub other-value : (xs : List Row) (pending : Option (Text × List Text)) (trailing : Bool) (word : Text) (words : List Text) → value_found xs pending 2 trailing word words ≡ None
+other-value xs pending trailing word words = refl
+
