@@ -52,7 +52,7 @@ step w word words = seq (turn_fault shape [] w word) (walk_fault shape [] (walke
 -- ---- characters
 
 -- what follows a first hyphen of a text is a text, and one of characters
-chars-behind : (byte : ℕ) (text : Text) → IsUtf8 (45 ∷ byte ∷ text) → (x : ℕ) × (xs : List ℕ) × (chars (byte ∷ text) ≡ x ∷ xs)
+pub chars-behind : (byte : ℕ) (text : Text) → IsUtf8 (45 ∷ byte ∷ text) → (x : ℕ) × (xs : List ℕ) × (chars (byte ∷ text) ≡ x ∷ xs)
 chars-behind byte text spelled =
     let rest : IsUtf8 (byte ∷ text) = IsUtf8-drop (45 ∷ byte ∷ text) 1 spelled (IsCharBoundary-after_ascii (45 ∷ byte ∷ text) 0 spelled (omega arith) (omega arith)) in
     go (chars (byte ∷ text)) refl (encodes-chars (byte ∷ text) rest)
@@ -193,7 +193,7 @@ long-is (Some seed) (Some number) xs pending place word words = ap (λ c. cond c
 
 -- ---- one word, by its form
 
-at-hyphen : (P : ℕ → Type 0) (byte : ℕ) → (byte == 45) ≡ true → P 45 → P byte
+pub at-hyphen : (P : ℕ → Type 0) (byte : ℕ) → (byte == 45) ≡ true → P 45 → P byte
 at-hyphen P byte is given = subst P (sym (eqb-true byte 45 is)) given
 
 option-found : (xs : List Row) (pending : Option (Text × List Text)) (place : ℕ) (text : Text) (words : List Text)
