@@ -14,7 +14,8 @@ use Rattle.clap.specs.Faults.{check_fault, defaults_fault, flags_fault, long_fau
 use Rattle.clap.specs.declared.error.kind.ErrorKind.TheVariants as kinds
 use Rattle.hsnap.specs.CommandLine.{Part, mode, page, workers, seed, name_of, Given, has_name, is_given, is_right, with_part, Form, ends, option as option_word, option_with, unknown, plain, form_of, option_form, option_named, hyphen_form, number_behind, with_number}
 use Rattle.hsnap.specs.CommandLine.{Place, any_word, number_of, mode_only, Read, then_at, word_read, number_read, next_read, end_read, parts_from, begins_with_hyphen}
-use Rattle.hsnap.proofs.ClapRules.{all_rules, by_id, by_long, defaults-pass, false-else, find-rows, finished-is, passing, passing-or_else, row, rows, rule, shape, use-none, use-passes, use-rows}
+use Rattle.hsnap.specs.inside.ClapRows.{row, rows}
+use Rattle.hsnap.proofs.ClapRules.{all_rules, by_id, by_long, defaults-pass, false-else, find-rows, finished-is, passing, passing-or_else, rule, shape, use-none, use-passes, use-rows}
 use Rattle.hsnap.proofs.ClapTurns.{at-hyphen, chars-behind, end_fault, first-value, form_found, found, idle_walk, option_walk, other-value, settled_as, settles, step, total, trailing-found, value_found, word-found}
 
 -- ---- the end of the words

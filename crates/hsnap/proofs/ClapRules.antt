@@ -17,30 +17,11 @@ use Rattle.clap.specs.declared.parser.matches.ValueSource.TheVariants as sources
 use Rattle.clap.specs.declared.error.kind.ErrorKind.{ErrorKind}
 use Rattle.clap.specs.declared.error.kind.ErrorKind.TheVariants as kinds
 use Rattle.clap.proofs.OnLiterals.{clap_on_literals}
+use Rattle.hsnap.specs.inside.ClapRows.{parser_of, mode_rule, option_rule, plain_app, command_app, row, rows}
 use Rattle.hsnap.specs.CommandLine.{Part, mode, page, workers, seed, name_of, Given, has_name, is_given, text_of, is_right, option_named}
 
--- ---- the command
+-- ---- the command, as it is built
 
-abbrev pub parser_of : Part → ValueParser
-parser_of mode = parsers.String
-parser_of page = parsers.Signed (pos 1) (pos 1000)
-parser_of workers = parsers.Signed (pos 1) (pos 8)
-parser_of seed = parsers.Signed (pos 0) (pos 4294967295)
-
--- as `clap` is told
-abbrev pub mode_rule : Rule
-mode_rule = record (new_rule (codes "mode")) { required = true }
-
-abbrev pub option_rule : Part → Rule
-option_rule part = record (new_rule (name_of part)) { long = Some (name_of part); parser = Some (parser_of part) }
-
-abbrev pub plain_app : App
-plain_app = on_top (λ s. record s { no_binary_name = true; disable_help_flag = true; disable_version_flag = true }) (new_app (codes "hsnap"))
-
-abbrev pub command_app : App
-command_app = with_rule (with_rule (with_rule (with_rule plain_app mode_rule) (option_rule page)) (option_rule workers)) (option_rule seed)
-
--- as it is built
 abbrev pub rule : Part → Rule
 rule mode = record mode_rule { action = Some Set; parser = Some parsers.String; range = Some (record { start_inclusive = 1; end_inclusive = 1 }); index = Some 1 }
 rule page = record (option_rule page) { action = Some Set; range = Some (record { start_inclusive = 1; end_inclusive = 1 }) }
@@ -110,12 +91,6 @@ pub by_long : (name : Text) → arg_by_long all_rules name ≡ option_map rule (
 by_long name = named_by (bytes_eq (codes "page") name) (bytes_eq (codes "workers") name) (bytes_eq (codes "seed") name)
 
 -- ---- rows
-
-abbrev pub row : Given → Row
-row given = record { id = name_of given.0; values = given.1 ∷ []; count = None; source = Some sources.CommandLine; reading = reading_of (parser_of given.0) }
-
-abbrev pub rows : List Given → List Row
-rows = map row
 
 pub has-rows : (part : Part) (given : List Given) → has_row (name_of part) (rows given) ≡ is_given part given
 has-rows part [] = refl

@@ -16,7 +16,8 @@ use Rattle.clap.specs.Simple.{names_of}
 use Rattle.clap.specs.declared.error.kind.ErrorKind.TheVariants as kinds
 use Rattle.clap.proofs.FaultLemmas.{leaf_fault}
 use Rattle.hsnap.specs.CommandLine.{Part, mode, page, workers, seed, name_of, Form, ends, option as option_word, option_with, unknown, plain, form_of, option_form, hyphen_form, option_named, number_behind, with_number}
-use Rattle.hsnap.proofs.ClapRules.{all_rules, built_app, built_is, by_long, command_app, false-else, passing, passing-or_else, rule, shape}
+use Rattle.hsnap.specs.inside.ClapRows.{command_app}
+use Rattle.hsnap.proofs.ClapRules.{all_rules, built_app, built_is, by_long, false-else, passing, passing-or_else, rule, shape}
 
 -- ---- all words
 

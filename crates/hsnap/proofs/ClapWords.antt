@@ -15,7 +15,8 @@ use Rattle.clap.specs.Faults.{use_fault}
 use Rattle.clap.specs.declared.error.kind.ErrorKind.{ErrorKind}
 use Rattle.hsnap.specs.CommandLine.{Part, mode, page, workers, seed, name_of, Given, has_name, is_given, is_right, with_part, Form, ends, option as option_word, option_with, unknown, plain, form_of, option_form, option_named, hyphen_form, number_behind, with_number}
 use Rattle.hsnap.specs.CommandLine.{Place, any_word, number_of, mode_only, Read, then_at, word_read, number_read, next_read, end_read, parts_from, begins_with_hyphen}
-use Rattle.hsnap.proofs.ClapRules.{all_rules, by_id, false-else, find-rows, passing, row, rows, rule, use-passes, use-rows}
+use Rattle.hsnap.specs.inside.ClapRows.{row, rows}
+use Rattle.hsnap.proofs.ClapRules.{all_rules, by_id, false-else, find-rows, passing, rule, use-passes, use-rows}
 use Rattle.hsnap.proofs.ClapTurns.{at-hyphen, first-value, form_found, found, idle_walk, option_walk, other-value, settled_as, settles, trailing-found, value_found, word-found}
 use Rattle.hsnap.proofs.ClapReads.{end-found, number-empty, number-hyphen, number-plain, place_of, rows_found, settling, waits-fail, waits-hyphen}
 
