@@ -26,6 +26,9 @@ name_of seed = codes "seed"
 abbrev pub Given : Type 0
 Given = Part × List ℕ
 
+abbrev pub Parts : Type 0
+Parts = List Given
+
 abbrev pub has_name : Part → Given → Bool
 has_name part given = bytes_eq (name_of given.0) (name_of part)
 

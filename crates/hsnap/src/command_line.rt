@@ -1,11 +1,9 @@
 //! The words of the command line, read by `clap`.
-ghost use Rattle.std.specs.Prelude.{◌≡◌, List, true, None, Some, IfOk, IfErr, map, pos};
+ghost use Rattle.std.specs.Prelude.{◌≡◌, true, false, None, Some, Err, IfOk, map, option_and_then};
 ghost use Rattle.std.specs.List.{All};
 ghost use Rattle.std.specs.Str.{IsUtf8};
 ghost use Rattle.clap.specs.Words.{app_of, found_of, rows_of, rule_of, new_rule};
-ghost use Rattle.clap.specs.declared.builder.value_parser.ValueParser.TheVariants as parsers;
-ghost use Rattle.clap.specs.declared.error.kind.ErrorKind.TheVariants.{OutOfMemory};
-ghost use Rattle.hsnap.specs.CommandLine.{Given, meaning_of_parts, meaning_of_words, mode_of, number_or, page as page_part, seed as seed_part, text_of, workers as workers_part, mode as mode_part};
+ghost use Rattle.hsnap.specs.CommandLine.{Parts, meaning_of_parts, meaning_of_words, mode_of, number_or, page as page_part, seed as seed_part, text_of, workers as workers_part, mode as mode_part};
 ghost use Rattle.hsnap.specs.inside.ClapRows.{are_right, command_app, rows};
 
 use clap::builder::ValueParser;
@@ -44,6 +42,9 @@ pub enum WordsFault {
 }
 
 impl From<NoMemory> for WordsFault {
+    ghost use Rattle.std.specs.Prelude.{◌≡◌};
+    ghost use Rattle.hsnap.specs.declared.command_line.WordsFault.{WordsFault};
+
     ghost from_gives = { λ _ fault. fault ≡ WordsFault.NoMemory };
 
     fn from(_fault: NoMemory) -> WordsFault {
@@ -52,6 +53,9 @@ impl From<NoMemory> for WordsFault {
 }
 
 impl From<AllocError> for WordsFault {
+    ghost use Rattle.std.specs.Prelude.{◌≡◌};
+    ghost use Rattle.hsnap.specs.declared.command_line.WordsFault.{WordsFault};
+
     ghost from_gives = { λ _ fault. fault ≡ WordsFault.NoMemory };
 
     fn from(_fault: AllocError) -> WordsFault {
@@ -98,7 +102,7 @@ fn command<'a>(alloc: Global) -> Result<Command<'a>, AllocError>
 
 /// The mode that was given.
 fn mode_in(matches: &ArgMatches<'_>) -> Option<Mode>
-    ensures { (given : List Given) → rows_of (found_of matches.now) ≡ rows given → result ≡ option_and_then mode_of (text_of mode_part given) }
+    ensures { (given : Parts) → rows_of (found_of matches.now) ≡ rows given → result ≡ option_and_then mode_of (text_of mode_part given) }
 {
     match matches.get_str("mode") {
         Some(word) => mode_named(word),
@@ -108,7 +112,7 @@ fn mode_in(matches: &ArgMatches<'_>) -> Option<Mode>
 
 /// The size of a page that was given, or the greatest.
 fn page_in(matches: &ArgMatches<'_>) -> PageSize
-    ensures { (given : List Given) → are_right given ≡ true → rows_of (found_of matches.now) ≡ rows given → result ≡ number_or 1000 (text_of page_part given) }
+    ensures { (given : Parts) → are_right given ≡ true → rows_of (found_of matches.now) ≡ rows given → result ≡ number_or 1000 (text_of page_part given) }
 {
     match matches.get_one::<u16>("page") {
         Some(entries) => PageSize::new(entries).unwrap_or(PageSize::greatest()),
@@ -117,20 +121,20 @@ fn page_in(matches: &ArgMatches<'_>) -> PageSize
 }
 
 fn workers_in(matches: &ArgMatches<'_>) -> u32
-    ensures { (given : List Given) → are_right given ≡ true → rows_of (found_of matches.now) ≡ rows given → result ≡ number_or 4 (text_of workers_part given) }
+    ensures { (given : Parts) → are_right given ≡ true → rows_of (found_of matches.now) ≡ rows given → result ≡ number_or 4 (text_of workers_part given) }
 {
     matches.get_one::<u32>("workers").unwrap_or(4)
 }
 
 fn seed_in(matches: &ArgMatches<'_>) -> u32
-    ensures { (given : List Given) → are_right given ≡ true → rows_of (found_of matches.now) ≡ rows given → result ≡ number_or 0 (text_of seed_part given) }
+    ensures { (given : Parts) → are_right given ≡ true → rows_of (found_of matches.now) ≡ rows given → result ≡ number_or 0 (text_of seed_part given) }
 {
     matches.get_one::<u32>("seed").unwrap_or(0)
 }
 
 /// What was given, where it names a mode.
 fn words_in(matches: &ArgMatches<'_>) -> Option<Words>
-    ensures { (given : List Given) → are_right given ≡ true → rows_of (found_of matches.now) ≡ rows given → result ≡ meaning_of_parts given }
+    ensures { (given : Parts) → are_right given ≡ true → rows_of (found_of matches.now) ≡ rows given → result ≡ meaning_of_parts given }
 {
     let mode = mode_in(matches)?;
     Some(Words {
