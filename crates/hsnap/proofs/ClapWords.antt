@@ -234,5 +234,3 @@ reads (word ∷ words) texts (number_of part) given fit = number-reads part word
 reads (word ∷ words) texts mode_only given fit = trailing-found (rows given) None (place_of (is_given mode given)) word words
     ∙ mode-found word given true mode_only words (All-tail IsUtf8 word words texts) (last-next word given words (reads words (All-tail IsUtf8 word words texts)))
 
-pub some_check : true ≡ true
-some_check = refl
