@@ -1,17 +1,22 @@
 -- What the words mean, by what `clap` answers.
-use Rattle.std.specs.Prelude.{◌≡◌, ◌&&◌, ◌||◌, ◌++◌, Bool, true, false, not, List, [], ◌∷◌, Option, Some, None, option_and_then, option_map, bytes_eq}
+use Rattle.std.specs.Prelude.{◌≡◌, ◌&&◌, ◌||◌, ◌++◌, Bool, true, false, not, List, [], ◌∷◌, Option, Some, None, Result, Ok, Err, IfOk, option_and_then, option_map, bytes_eq}
 use Rattle.std.specs.List.{All, list_all, list_any, find}
+use Rattle.std.specs.Option.{ok_or}
 use Rattle.std.specs.Str.{IsUtf8}
-use Rattle.std.proofs.Common.{refl, ap, ap₂, sym, subst, cond, true≢false, ◌∙◌}
+use Rattle.std.proofs.Common.{refl, ap, ap₂, sym, subst, cond, true≢false, inl, inr, ◌∙◌}
 use Rattle.std.proofs.lemmas.Bool.{and_from}
 use Rattle.std.proofs.lemmas.List.Folds.{list_all-append}
-use Rattle.clap.specs.Words.{Row, Text, fault_of, matches_of}
-use Rattle.clap.specs.Kinds.{Kinds}
+use Rattle.clap.specs.Words.{App, Row, Text, fault_of, is_simple, is_simple_and_free, matches_of}
+use Rattle.clap.specs.Kinds.{Kinds, HasKind}
+use Rattle.clap.specs.Values.{kind_of}
+use Rattle.clap.specs.declared.error.Error.{Error}
+use Rattle.clap.specs.declared.error.kind.ErrorKind.TheVariants as kinds
 use Rattle.clap.specs.Walk.{finished, nothing_held, walk, walk_from}
 use Rattle.hsnap.specs.CommandLine.{Part, mode, Given, Form, ends, option as option_word, option_with, unknown, plain, form_of, has_name, is_given, is_right, text_of, with_part, begins_with_hyphen, meaning_of_parts, meaning_of_words, mode_of, words_in}
 use Rattle.hsnap.specs.CommandLine.{Place, any_word, number_of, mode_only, Read, then_at, word_read, number_read, next_read, end_read, parts_from, parts_of}
+use Rattle.hsnap.specs.declared.command_line.Words.{Words}
 use Rattle.hsnap.specs.inside.ClapRows.{are_right, command_app, row, rows}
-use Rattle.hsnap.proofs.ClapRules.{all_rules, passing}
+use Rattle.hsnap.proofs.ClapRules.{all_rules, free, passing, simple}
 use Rattle.hsnap.proofs.ClapTurns.{fault-is, found, matches-are, total}
 use Rattle.hsnap.proofs.ClapWords.{finish, if_mode, reads}
 
@@ -105,7 +110,7 @@ refused words texts fails = go (parts_of words) (sym (all-found words texts) ∙
   where
     not-found : (k : Kinds) → total (walk_from nothing_held) words ≡ k → (k ≡ [] → ⊥) → found (walk_from nothing_held) words ≡ None
     not-found [] is fails = absurd (fails refl)
-    not-found (kind ∷ kinds) is fails = ap (λ t. cond (passing t) (Some (finished all_rules (walk all_rules [] nothing_held words).held)) None) is
+    not-found (kind ∷ more) is fails = ap (λ t. cond (passing t) (Some (finished all_rules (walk all_rules [] nothing_held words).held)) None) is
 
     no-mode : (given : List Given) (b : Bool) → is_given mode given ≡ b → cond b (Some (rows given)) None ≡ None → meaning_of_parts given ≡ None
     no-mode given true is none = absurd (cc)
@@ -114,3 +119,33 @@ refused words texts fails = go (parts_of words) (sym (all-found words texts) ∙
     go : (parts : Option (List Given)) → finish parts ≡ None → option_and_then meaning_of_parts parts ≡ None
     go None none = refl
     go (Some given) none = no-mode given (is_given mode given) refl none
+
+-- ---- for a command and words that are known to be these
+
+pub read-taken : (words said : List Text) (a : App) (xs : List Row) (read : Option Words) → a ≡ command_app → said ≡ words → All IsUtf8 words
+    → (is_simple_and_free a ≡ true → fault_of a said ≡ []) → (is_simple a ≡ true → xs ≡ matches_of a said)
+    → ((given : List Given) → are_right given ≡ true → xs ≡ rows given → read ≡ meaning_of_parts given) → read ≡ meaning_of_words words
+read-taken words said a xs read app same texts kinds matches meaning =
+    let none : fault_of command_app words ≡ [] = sym (ap₂ fault_of app same) ∙ kinds (ap is_simple_and_free app ∙ free) in
+    let found : xs ≡ matches_of command_app words = matches (ap is_simple app ∙ simple) ∙ ap₂ matches_of app same in
+    let got = taken words texts none in
+    meaning got.0 got.1.2 (found ∙ got.1.1) ∙ sym (ap (λ parts. option_and_then meaning_of_parts parts) got.1.0)
+
+pub read-refused : (words said : List Text) (a : App) (error : Error) → a ≡ command_app → said ≡ words → All IsUtf8 words
+    → (is_simple_and_free a ≡ true → HasKind (fault_of a said) error) → (kind_of error ≡ kinds.OutOfMemory → ⊥) → meaning_of_words words ≡ None
+read-refused words said a error app same texts kind other = refused words texts
+    (λ none. go (fault_of a said) (ap₂ fault_of app same ∙ none) (kind (ap is_simple_and_free app ∙ free)))
+  where
+    go : (k : Kinds) → k ≡ [] → HasKind k error → ⊥
+    go [] is (inl memory) = other memory
+    go [] is (inr among) = among
+    go (x ∷ k) is among = absurd (cc)
+
+-- and what is made of them
+pub ok-means : {W F : Type 0} (read : Option W) (fault : F) (meaning : Option W) (r : Result W F) → r ≡ ok_or read fault → read ≡ meaning → IfOk r (λ w. meaning ≡ Some w)
+ok-means {W = W} {F = F} (Some w) fault meaning r is same = subst (λ (x : Result W F). IfOk x (λ y. meaning ≡ Some y)) (sym is) (sym same)
+ok-means {W = W} {F = F} None fault meaning r is same = subst (λ (x : Result W F). IfOk x (λ y. meaning ≡ Some y)) (sym is) tt
+
+pub err-means : {W F : Type 0} (read : Option W) (fault other : F) (meaning : Option W) (r : Result W F) → r ≡ ok_or read fault → read ≡ meaning → r ≡ Err other → meaning ≡ None
+err-means (Some w) fault other meaning r is same err = absurd (cc)
+err-means None fault other meaning r is same err = sym same

@@ -4,7 +4,7 @@ use Rattle.std.specs.Option.{option_map_or}
 use Rattle.std.specs.List.{list_any, find, fold}
 use Rattle.std.proofs.Common.{refl, ap, ap₂, sym, cond, true≢false, append-nil, ◌∙◌}
 use Rattle.std.proofs.lemmas.List.{map-append}
-use Rattle.clap.specs.Words.{App, Row, Rule, Text, new_app, new_rule, with_rule, is_simple_and_free, built}
+use Rattle.clap.specs.Words.{App, Row, Rule, Text, new_app, new_rule, with_rule, is_simple, is_simple_and_free, built}
 use Rattle.clap.specs.Kinds.{Kinds, or_else}
 use Rattle.clap.specs.Simple.{Shape, on_top}
 use Rattle.clap.specs.Values.{reading_of}
@@ -182,3 +182,7 @@ defaults-pass xs =
 
     page-on : (ys : List Row) → defaults_fault ys (rule page ∷ rule workers ∷ rule seed ∷ []) ≡ []
     page-on ys = ap (λ k. or_else k (defaults_fault (with_default ys (rule page)) (rule workers ∷ rule seed ∷ []))) (no-fault (has_row (name_of page) ys) _) ∙ workers-on (with_default ys (rule page))
+
+pub simple : is_simple command_app ≡ true
+unfolding clap_on_literals
+simple = refl

@@ -2,7 +2,7 @@
 ghost use Rattle.std.specs.Prelude.{◌≡◌, true, false, None, Some, Err, IfOk, map, option_and_then};
 ghost use Rattle.std.specs.List.{All};
 ghost use Rattle.std.specs.Str.{IsUtf8};
-ghost use Rattle.clap.specs.Words.{app_of, found_of, rows_of, rule_of, new_rule};
+ghost use Rattle.clap.specs.Words.{app_of, found_of, kind_of, rows_of, rule_of, new_rule};
 ghost use Rattle.hsnap.specs.CommandLine.{Parts, meaning_of_parts, meaning_of_words, mode_of, number_or, page as page_part, seed as seed_part, text_of, workers as workers_part, mode as mode_part};
 ghost use Rattle.hsnap.specs.inside.ClapRows.{are_right, command_app, rows};
 
@@ -157,6 +157,15 @@ fn texts_of<'a>(alloc: Global, words: &'a [NameText]) -> Result<Vec<&'a str>, Al
     Ok(texts)
 }
 
+fn fault_of(error: &clap::Error) -> WordsFault
+    ensures { result ≡ WordsFault.Usage → kind_of error.now ≡ ErrorKind.OutOfMemory → ⊥ }
+{
+    match error.kind() {
+        ErrorKind::OutOfMemory => WordsFault::NoMemory,
+        _ => WordsFault::Usage,
+    }
+}
+
 /// Reads `MODE [--page N] [--workers N] [--seed N]`, in any order; after `--` no word is an option.
 pub fn read_words(alloc: Global, words: &List<NameText>) -> Result<Words, WordsFault>
     ensures ok { IfOk result (λ read. meaning_of_words words.now ≡ Some read) }
@@ -166,7 +175,6 @@ pub fn read_words(alloc: Global, words: &List<NameText>) -> Result<Words, WordsF
     let command = command(alloc)?;
     match command.try_get_matches_from(texts.as_slice()) {
         Ok(matches) => words_in(&matches).ok_or(WordsFault::Usage),
-        Err(error) if error.kind() == ErrorKind::OutOfMemory => Err(WordsFault::NoMemory),
-        Err(_) => Err(WordsFault::Usage),
+        Err(error) => Err(fault_of(&error)),
     }
 }
