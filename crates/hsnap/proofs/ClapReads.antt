@@ -175,4 +175,3 @@ pub number-plain : (xs : List Row) (part : Part) (place : ℕ) (byte : ℕ) (tex
     → found (option_walk xs part place false) ((byte ∷ text) ∷ words) ≡ found (idle_walk xs (Some (name_of part, (byte ∷ text) ∷ [])) place false) words
 number-plain xs part place byte text words other = step (option_walk xs part place false) (byte ∷ text) words
     ∙ ap₂ (λ k w. cond (passing k) (found w words) None) (number-turn xs part place byte text other) (number-walked xs part place byte text other ∙ number-held part (byte ∷ text) xs place)
-

@@ -249,4 +249,3 @@ first-value xs pending trailing word words =
 -- no other
 pub other-value : (xs : List Row) (pending : Option (Text × List Text)) (trailing : Bool) (word : Text) (words : List Text) → value_found xs pending 2 trailing word words ≡ None
 other-value xs pending trailing word words = refl
-

@@ -169,4 +169,3 @@ page-or (Some text) entries other None read some none =
 pub page-none : (o : Option Text) → IsRead o 1 1000 None → 1000 ≡ number_or 1000 o
 page-none None read = refl
 page-none (Some text) read = absurd (cc)
-

@@ -233,4 +233,3 @@ reads (word ∷ words) texts any_word given fit = word-found (rows given) None (
 reads (word ∷ words) texts (number_of part) given fit = number-reads part word given words fit (texts 0 word (omega arith)) (All-tail IsUtf8 word words texts) (reads words (All-tail IsUtf8 word words texts))
 reads (word ∷ words) texts mode_only given fit = trailing-found (rows given) None (place_of (is_given mode given)) word words
     ∙ mode-found word given true mode_only words (All-tail IsUtf8 word words texts) (last-next word given words (reads words (All-tail IsUtf8 word words texts)))
-
