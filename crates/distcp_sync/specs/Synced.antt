@@ -128,7 +128,7 @@ module _ (ask : SyncAsk) (page : ℕ) (sides : SyncSides) (report : SyncReport) 
   -- a target that was changed since its `from` is left as it is
   abbrev pub ByChange : SyncStart → Look → Look → List Look → List Line → Type 0
   ByChange start one two looks [] = HasWorked start one two looks
-  ByChange start one two looks (line ∷ lines) = EndsAtLast looks (answers.TargetChanged line)
+  ByChange start one two looks (line ∷ others) = EndsAtLast looks (answers.TargetChanged line)
 
   abbrev pub AfterThird : SyncStart → Look → Look → Look → List Look → Bool → Type 0
   AfterThird start one two three looks true = ByChange start one two looks (lines_shown three.reply.reply)
