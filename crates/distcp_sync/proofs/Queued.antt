@@ -64,7 +64,7 @@ module _ (from to : Tree (List ℕ)) (is : IsPair from to) where
     same : new.node.id ≡ id
 
   -- each id is of the new directory at the path in its place
-  AreAt : List InodeId → List Names → Type 0
+  abbrev AreAt : List InodeId → List Names → Type 0
   AreAt [] [] = Unit {0}
   AreAt [] (path ∷ paths) = ⊥
   AreAt (id ∷ ids) [] = ⊥
@@ -77,7 +77,7 @@ module _ (from to : Tree (List ℕ)) (is : IsPair from to) where
   at-append (id ∷ ids) more (path ∷ paths) others h k = (h.0, at-append ids more paths others h.1 k)
 
   -- both lists take an element more, or none does
-  Both : Option InodeId → Option Names → Type 0
+  abbrev Both : Option InodeId → Option Names → Type 0
   Both None None = Unit {0}
   Both None (Some path) = ⊥
   Both (Some id) None = ⊥
@@ -101,7 +101,7 @@ module _ (from to : Tree (List ℕ)) (is : IsPair from to) where
   first-one one tells = by (is_created one.kind && one.is_dir)
       (λ t. let told : (path : Names) × IsNew from to (record { id = one.id; is_dir = one.is_dir; path = path }) = tells (kind-so one.kind (first (is_created one.kind) one.is_dir t)) in
         subst (λ b. Both (cond b (Some one.id) None) (cond b (path_at (place_of to one.id)) None)) (sym t)
-        (subst (λ o. Both (Some one.id) (path_at o)) (sym (place_of-here to is.to_tree told.0 told.1.node one.id told.1.at told.1.same_id))
+        (subst (λ o. Both (Some one.id) (path_at o)) (sym (place_of-here to is.to_tree told.0 told.1.node one.id told.1.at (sym told.1.same_id)))
         (record { new = record { node = told.1.node; at = told.1.at; dir = told.1.same_kind ∙ second (is_created one.kind) one.is_dir t; new = told.1.new }; same = λ i. record { 0 = told.1.same_id i } })))
       (λ f. subst (λ b. Both (cond b (Some one.id) None) (cond b (path_at (place_of to one.id)) None)) (sym f) tt)
 
