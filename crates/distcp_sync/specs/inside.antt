@@ -1,2 +1,3 @@
 -- Definitions that serve proofs and private contracts alone.
 pub mod Trace
+pub mod Runs
