@@ -1,2 +1,4 @@
 mod Heard
+mod Places
+mod Spans
 mod Runs

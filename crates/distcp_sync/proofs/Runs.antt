@@ -2,6 +2,8 @@
 use Rattle.std.proofs.Common.{◌≡◌}
 use Rattle.distcp_sync.specs.inside.Runs.{RunsAreTold}
 use Rattle.distcp_sync.proofs.Heard.{heard}
+use Rattle.distcp_sync.proofs.Places.{made_places}
+use Rattle.distcp_sync.proofs.Spans.{own_added}
 
 pub runs_are_told : RunsAreTold
 runs_are_told = ?
