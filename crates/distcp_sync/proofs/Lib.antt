@@ -1,4 +1,5 @@
 mod Heard
 mod Places
 mod Spans
+mod Did
 mod Runs
