@@ -1,5 +1,5 @@
 -- What calls did at one link, and where the caller's entries are.
-use Rattle.std.proofs.Common.{◌≡◌, ℕ, ◌+◌, ◌≤◌, nat_lt, Bool, true, false, cond, ◌==◌, ◌&&◌, ◌||◌, ◌^◌, List, [], ◌∷◌, ◌++◌, refl, ap, sym, ◌∙◌, subst, append_assoc, append-nil, arith}
+use Rattle.std.proofs.Common.{◌≡◌, ℕ, ◌+◌, ◌≤◌, nat_lt, Bool, true, false, cond, ◌==◌, ◌&&◌, ◌||◌, ◌^◌, Some, None, List, [], ◌∷◌, ◌++◌, zero, suc, slice_get, refl, ap, sym, ◌∙◌, subst, append_assoc, append-nil, arith}
 use Rattle.std.specs.Option.{option_to_list}
 use Rattle.std.proofs.lemmas.Bool.Decides.{nat_tests}
 use Rattle.hs_types.specs.declared.ids.CallerId.{CallerId}
@@ -8,11 +8,13 @@ use Rattle.hs_types.specs.declared.call.Call.{Call}
 use Rattle.hs_types.specs.declared.journal.Entry.{Entry}
 use Rattle.hs_types.specs.declared.journal.EntryKind.TheVariants.{Accepted, Faulted}
 use Rattle.hs_types.specs.declared.reply.Answered.{Answered}
+use Rattle.hs_plain.specs.declared.state.State.{State}
 use Rattle.hs_plain.specs.State.{start}
-use Rattle.hs_plain.specs.Answer.{is_modifying, uses_store, is_ok_reply, is_store_fault}
+use Rattle.hs_plain.specs.Files.{plain_files}
+use Rattle.hs_plain.specs.Change.{after}
+use Rattle.hs_plain.specs.Answer.{answer, is_modifying, uses_store, is_ok_reply, is_store_fault}
 use Rattle.hs_plain.specs.Legal.{Said, leaves_entry, entry_of, place_left, places_of, number_rises}
-use Rattle.hs_plain.specs.Replay.{fits_kind}
-use Rattle.hs_plain.proofs.Paged.{fits_at}
+use Rattle.hs_plain.specs.Replay.{fits_kind, may_follow, proper_from}
 use Rattle.page_join.specs.Links.{Known, IsLawful, IsCall, said_by}
 use Rattle.page_join.proofs.Chains.{prefix_trans}
 use Rattle.copy_workers.specs.declared.copied.Look.{Look}
@@ -78,6 +80,24 @@ has_gone old new ks did = record {
 differs : true ≡ false → ⊥
 differs e = cc
 
+both_first : (a b : Bool) → (a && b) ≡ true → a ≡ true
+both_first true b e = refl
+both_first false b e = e
+
+both_second : (a b : Bool) → (a && b) ≡ true → b ≡ true
+both_second true b e = e
+both_second false b e = absurd (cc)
+
+some_of : (x e : Entry) → Some x ≡ Some e → x ≡ e
+some_of x e same = cc
+
+-- the entry at a place of a proper journal is of a call of its kind
+fits_at : (state : State (List ℕ)) (journal : List Entry) (i : ℕ) (entry : Entry) → proper_from state journal ≡ true → slice_get journal i ≡ Some entry → fits_kind entry.kind entry.call ≡ true
+fits_at state [] i entry proper there = absurd (cc)
+fits_at state (e ∷ journal) zero entry proper there =
+    ap (λ (e : Entry). fits_kind e.kind e.call) (sym (some_of e entry there)) ∙ both_first (fits_kind e.kind e.call) (is_ok_reply (answer state e.call)) (both_first (may_follow state e) (proper_from (after plain_files state e) journal) proper)
+fits_at state (e ∷ journal) (suc i) entry proper there = fits_at (after plain_files state e) journal i entry (both_second (may_follow state e) (proper_from (after plain_files state e) journal) proper) there
+
 -- a call that changes nothing and uses no store leaves no entry
 pub leaves_none : (old new : Known) (call : Call) (told : Answered) → IsCall old new call told → is_modifying call ≡ false → uses_store call ≡ false → leaves_entry call told.reply ≡ false
 leaves_none old new call told called modifies stores = by (is_store_fault told.reply) refl
@@ -92,5 +112,5 @@ leaves_none old new call told called modifies stores = by (is_store_fault told.r
 pub did_read : (side : Side) (old new : Known) (call : Call) (look : Look) → IsLooked side old new call look → is_modifying call ≡ false → uses_store call ≡ false → Did old new []
 did_read side old new call look looked modifies stores =
     subst (Did old new) {x = option_to_list (place_left (said_by new call look.reply))} {y = []}
-      (ap (λ b. option_to_list (cond b (Rattle.std.specs.Prelude.Some look.reply.position) Rattle.std.specs.Prelude.None)) (leaves_none old new call look.reply looked.called modifies stores))
+      (ap (λ b. option_to_list (cond b (Some look.reply.position) None)) (leaves_none old new call look.reply looked.called modifies stores))
       (did_call old new call look.reply looked.called)

@@ -2,4 +2,5 @@ mod Heard
 mod Places
 mod Spans
 mod Did
+mod Begun
 mod Runs

@@ -5,6 +5,7 @@ use Rattle.distcp_sync.proofs.Heard.{heard}
 use Rattle.distcp_sync.proofs.Places.{made_places}
 use Rattle.distcp_sync.proofs.Spans.{own_added}
 use Rattle.distcp_sync.proofs.Did.{did_read}
+use Rattle.distcp_sync.proofs.Begun.{did_begin}
 
 pub runs_are_told : RunsAreTold
 runs_are_told = ?
