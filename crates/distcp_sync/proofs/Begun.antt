@@ -1,5 +1,5 @@
 -- The first steps of a sync.
-use Rattle.std.proofs.Common.{◌≡◌, ℕ, Bool, true, false, List, [], ◌∷◌, ◌++◌, Result, Ok, Err, refl, ap, sym, ◌∙◌, subst}
+use Rattle.std.proofs.Common.{◌≡◌, ℕ, Bool, true, false, List, [], ◌∷◌, ◌++◌, Result, Ok, Err, inl, inr, refl, ap, sym, ◌∙◌, subst}
 use Rattle.hs_types.specs.declared.ids.Side.{Side}
 use Rattle.hs_types.specs.declared.ids.Side.TheVariants.{Source, Target}
 use Rattle.hs_types.specs.declared.reply.Line.{Line}
@@ -83,8 +83,42 @@ module _ (job : SyncJob) (page : ℕ) (sides : SyncSides) (report : SyncReport) 
 
   -- a target that is unchanged: the sync begins
   pub told_begin : (source_now target_now : Known) (looks later : List Look) (start : SyncStart) → IsBegun job source source_now target target_now looks (Ok start) → Goes source_now source_last → Goes target_now target_last →
-      ((one two : Look) → HasWorked (ask_of job) page sides report start one two later) → First (ask_of job) page sides report (looks ++ later)
-  told_begin s t looks later start (begins one two three start now roots ok good shown) s_goes t_goes worked =
+      ((now : Known) (one two : Look) → AreRoots job source source_now target now one two → begun (ask_of job) one.reply.reply two.reply.reply ≡ Ok start → HasWorked (ask_of job) page sides report start one two later) →
+      First (ask_of job) page sides report (looks ++ later)
+  told_begin s t looks later start (begins one two three start_is now roots ok good shown) s_goes t_goes worked =
       with_roots s now one two (three ∷ later) (Ok start) roots s_goes (goes_then now t target_last (call_goes now t (unchanged_call start) three.reply good.looked.called) t_goes) ok
         (with_third now t start one two three later true (call_goes target now (calls.Snaps job.target_root) two.reply roots.second.looked.called) good.looked t_goes good.ok
-          (subst (λ (ls : List Line). ByChange (ask_of job) page sides report start one two later ls) (sym shown) (worked one two)))
+          (subst (λ (ls : List Line). ByChange (ask_of job) page sides report start one two later ls) (sym shown) (worked now one two roots ok)))
+
+  -- ---- a sync that ends in its first steps
+
+  module _ (no_moves : report.moves ≡ []) (no_copies : report.copies ≡ []) (none : places_in sides.target ≡ []) where
+    ends : (expected : SyncAnswer) → OrNoMemory expected report.answer → EndsUnmade sides report expected
+    ends expected is = record { answer = is; moves = no_moves; copies = no_copies; none = none }
+
+    last : (expected : SyncAnswer) → OrNoMemory expected report.answer → EndsAtLast (ask_of job) page sides report [] expected
+    last expected is = record { last = refl; ends = ends expected is }
+
+    pub told_unbegun : (answer : SyncAnswer) (looks : List Look) → answer ≡ report.answer → IsBegun job source source_last target target_last looks (Err answer) → First (ask_of job) page sides report looks
+    told_unbegun answer looks same (no_first es et) = ends answers.NoMemory (inl (sym same))
+    told_unbegun answer looks same (bad_first one answer_is bad et is) =
+        with_first source_last one [] false bad.looked (goes_self source_last) bad.bad (last (root_answer Source one.reply.reply) (subst (OrNoMemory (root_answer Source one.reply.reply)) same is))
+    told_unbegun answer looks same (no_second one ok et) = with_first source_last one [] true ok.looked (goes_self source_last) ok.ok (ends answers.NoMemory (inl (sym same)))
+    told_unbegun answer looks same (bad_second one two answer_is ok bad is) =
+        with_first source_last one (two ∷ []) true ok.looked (goes_self source_last) ok.ok
+          (with_second target_last one two [] false bad.looked (goes_self target_last) bad.bad (last (root_answer Target two.reply.reply) (subst (OrNoMemory (root_answer Target two.reply.reply)) same is)))
+    told_unbegun answer looks same (not_begun one two expected answer_is roots err is) =
+        with_roots source_last target_last one two [] (Err expected) roots (goes_self source_last) (goes_self target_last) err (last expected (subst (OrNoMemory expected) same is))
+    told_unbegun answer looks same (no_third one two roots) = no_report one two roots (begun (ask_of job) one.reply.reply two.reply.reply) refl
+      where
+        no_report : (one two : Look) → AreRoots job source source_last target target_last one two → (result : Result SyncStart SyncAnswer) → begun (ask_of job) one.reply.reply two.reply.reply ≡ result → First (ask_of job) page sides report (one ∷ two ∷ [])
+        no_report one two roots (Ok start) is = with_roots source_last target_last one two [] (Ok start) roots (goes_self source_last) (goes_self target_last) is (ends answers.NoMemory (inl (sym same)))
+        no_report one two roots (Err expected) is = with_roots source_last target_last one two [] (Err expected) roots (goes_self source_last) (goes_self target_last) is (last expected (inr (sym same)))
+    told_unbegun answer looks same (bad_third one two three start now answer_is roots ok bad is) =
+        with_roots source_last now one two (three ∷ []) (Ok start) roots (goes_self source_last) (call_goes now target_last (unchanged_call start) three.reply bad.looked.called) ok
+          (with_third now target_last start one two three [] false (call_goes target now (calls.Snaps job.target_root) two.reply roots.second.looked.called) bad.looked (goes_self target_last) bad.bad
+            (last (answer_at three) (subst (OrNoMemory (answer_at three)) same is)))
+    told_unbegun answer looks same (changed one two three start now line more answer_is roots ok good shown is) =
+        with_roots source_last now one two (three ∷ []) (Ok start) roots (goes_self source_last) (call_goes now target_last (unchanged_call start) three.reply good.looked.called) ok
+          (with_third now target_last start one two three [] true (call_goes target now (calls.Snaps job.target_root) two.reply roots.second.looked.called) good.looked (goes_self target_last) good.ok
+            (subst (λ (ls : List Line). ByChange (ask_of job) page sides report start one two [] ls) (sym shown) (last (answers.TargetChanged line) (subst (OrNoMemory (answers.TargetChanged line)) same is))))

@@ -3,4 +3,5 @@ mod Places
 mod Spans
 mod Did
 mod Begun
+mod Unmade
 mod Runs
