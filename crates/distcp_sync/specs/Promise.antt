@@ -1,5 +1,5 @@
 -- The promise of a sync: under its premises it is done, and then leaves the target equal to the source's `to`.
-use Rattle.std.specs.Prelude.{◌≡◌, ◌⊎◌, ℕ, ◌+◌, true, List, [], ◌∷◌, take, Ok}
+use Rattle.std.specs.Prelude.{◌≡◌, ℕ, true, take, Ok}
 use Rattle.hs_types.specs.Names.{Names}
 use Rattle.hs_plain.specs.Modifying.{live_path}
 use Rattle.hs_plain.specs.Tree.{subtree}
@@ -7,18 +7,11 @@ use Rattle.hs_plain.specs.Replay.{plain_after, is_proper}
 use Rattle.hs_plain.specs.Plan.{AreEqual}
 use Rattle.hs_plain.specs.Premises.{SyncAsk, IsUndisturbed, IsUnhindered}
 use Rattle.plan_laws.specs.Undisturbed.{AreWithinLimit}
-use Rattle.copy_workers.specs.declared.copied.Made.{Made}
 use Rattle.distcp_sync.specs.declared.answer.SyncAnswer.TheVariants as answers
 use Rattle.distcp_sync.specs.declared.report.SyncReport.{SyncReport}
 use Rattle.distcp_sync.specs.Told.{OrNoMemory}
-use Rattle.distcp_sync.specs.Steps.{SyncSides}
+use Rattle.distcp_sync.specs.Steps.{SyncSides, up_to_last}
 use Rattle.distcp_sync.specs.Synced.{IsSynced}
-
--- how many entries the journal has up to the last of these
-abbrev pub up_to_last : List Made → ℕ
-up_to_last [] = 0
-up_to_last (made ∷ []) = made.position + 1
-up_to_last (made ∷ other ∷ more) = up_to_last (other ∷ more)
 
 -- where the source's store tells its bytes
 pub record KeepsPromise (ask : SyncAsk) (sides : SyncSides) (report : SyncReport) : Type 0 where

@@ -12,7 +12,7 @@ use Rattle.hs_types.specs.declared.journal.EntryKind.TheVariants.{Accepted, Faul
 use Rattle.hs_plain.specs.declared.state.Member.{Member}
 use Rattle.hs_plain.specs.declared.state.State.{State}
 use Rattle.hs_plain.specs.declared.plan.Plan.{Plan}
-use Rattle.hs_plain.specs.Legal.{IsLegalCall}
+use Rattle.hs_plain.specs.Legal.{IsLegalCall, reach_of}
 use Rattle.hs_plain.specs.Replay.{plain_after}
 use Rattle.hs_plain.specs.Span.{is_one_of}
 use Rattle.hs_plain.specs.Premises.{SyncAsk, SyncSide}
@@ -40,12 +40,12 @@ tells_at sides Target = sides.target_tells
 
 -- ---- replies
 
--- a reply that was kept answers this call of one of the sync's callers, as the plain machine does at a place in the span
+-- a reply that was kept answers this call of one of the sync's callers, as the plain machine does at a place in the span, in which its own entry is, where it left one
 pub record IsHeard (sides : SyncSides) (side : Side) (call : Call) (look : Look) : Type 0 where
   pub at_side : look.side ≡ side
   pub of_caller : is_one_of (side_at sides side).callers look.caller ≡ true
   pub from : (side_at sides side).span.low ≤ look.reply.position
-  pub to : look.reply.position ≤ (side_at sides side).span.high
+  pub to : reach_of call look.reply ≤ (side_at sides side).span.high
   pub seq : ℕ
   pub legal : IsLegalCall (tells_at sides side) (side_at sides side).limit (side_at sides side).journal look.caller seq call look.reply
 
@@ -80,6 +80,12 @@ own_places callers low high index (entry ∷ entries) =
 -- those of a sync's callers in its span
 abbrev pub places_in : SyncSide → List ℕ
 places_in side = own_places side.callers side.span.low side.span.high 0 side.journal
+
+-- how many entries the journal has up to the last of these
+abbrev pub up_to_last : List Made → ℕ
+up_to_last [] = 0
+up_to_last (made ∷ []) = made.position + 1
+up_to_last (made ∷ other ∷ more) = up_to_last (other ∷ more)
 
 -- ---- the plan
 

@@ -1,5 +1,5 @@
 -- What a sync did, as its report tells it and both journals show: each answer has its cause.
-use Rattle.std.specs.Prelude.{◌≡◌, ◌≢◌, ◌⊎◌, ⊤, ℕ, Bool, true, false, List, [], ◌∷◌, ◌++◌, ◌+◌, length, map, slice_get, Option, Some, None, Result, Ok, Err}
+use Rattle.std.specs.Prelude.{◌≡◌, ◌≢◌, ◌⊎◌, ⊤, ℕ, ◌≤◌, Bool, true, false, List, [], ◌∷◌, ◌++◌, ◌+◌, length, map, slice_get, Option, Some, None, Result, Ok, Err}
 use Rattle.hs_types.specs.declared.ids.InodeId.{InodeId}
 use Rattle.hs_types.specs.declared.ids.Side.{Side}
 use Rattle.hs_types.specs.declared.ids.Side.TheVariants.{Source, Target}
@@ -28,7 +28,7 @@ use Rattle.distcp_sync.specs.declared.answer.SyncAnswer.TheVariants as answers
 use Rattle.distcp_sync.specs.declared.report.SyncReport.{SyncReport}
 use Rattle.distcp_sync.specs.declared.start.SyncStart.{SyncStart}
 use Rattle.distcp_sync.specs.Told.{begun, unchanged_call, root_answer, answer_at, OrNoMemory}
-use Rattle.distcp_sync.specs.Steps.{SyncSides, IsHeard, state_at, AreAllMade, AreEntries, places_in, plan_between, IsNext, AreFaulted, AreFirst, ended_copy, are_numbered}
+use Rattle.distcp_sync.specs.Steps.{SyncSides, IsHeard, state_at, AreAllMade, AreEntries, places_in, plan_between, IsNext, AreFaulted, AreFirst, ended_copy, are_numbered, up_to_last}
 
 -- a directory of the source's `to` that isn't in its `from`
 pub record IsNewDir (from to : Tree (List ℕ)) (dir : InodeId) : Type 0 where
@@ -79,7 +79,7 @@ module _ (ask : SyncAsk) (page : ℕ) (sides : SyncSides) (report : SyncReport) 
     pub within : made ≢ [] → bad_paths (planned start one two trees) ≡ []
     pub copies : are_numbered 0 report.copies ≡ true
 
-  -- the reply that ended a sync, and that is no copy's: of a page of the source's report, of a listing, or of the next call of the plan
+  -- the reply that ended a sync, and that is no copy's: of a page of the source's report, of a listing, or of the next call of the plan, behind all that was made
   pub data IsLastLook (start : SyncStart) (one two : Look) (trees : HasTrees start one two) (made : HasMade start one two trees) (look : Look) : Type 0 where
     lines : (cursor : ReportCursor) → cursor.root ≡ start.source → cursor.from ≡ start.from → cursor.to ≡ start.to → made.made ≡ [] →
         IsHeard sides Source (calls.ReportNext cursor page) look → IsLastLook start one two trees made look
@@ -87,7 +87,7 @@ module _ (ask : SyncAsk) (page : ℕ) (sides : SyncSides) (report : SyncReport) 
         IsHeard sides Target (calls.ListNext (record { place = places.Frozen start.target start.base; after = after }) page) look → IsLastLook start one two trees made look
     items : (dir : InodeId) (after : Option (List ℕ)) → (dir ≡ start.source) ⊎ IsNewDir trees.from.tree trees.to.tree dir → made.made ≡ [] →
         IsHeard sides Source (calls.ListNext (record { place = places.Frozen dir start.to; after = after }) page) look → IsLastLook start one two trees made look
-    moved : (call : Call) → bad_paths (planned start one two trees) ≡ [] → IsNext sides.source_tells made.rest call →
+    moved : (call : Call) → bad_paths (planned start one two trees) ≡ [] → IsNext sides.source_tells made.rest call → up_to_last made.made ≤ look.reply.position →
         IsHeard sides Target call look → IsLastLook start one two trees made look
 
   -- what ended the copies: want of memory for a call that wasn't made, a read of the file of the last job, or the next call of the plan
@@ -95,12 +95,12 @@ module _ (ask : SyncAsk) (page : ℕ) (sides : SyncSides) (report : SyncReport) 
     by_memory : look ≡ wanting_of look.side look.caller → IsCopyLook start one two trees made look
     by_read : (number offset : ℕ) (job : CopyJob) → slice_get (jobs start one two trees) number ≡ Some job → length report.copies ≡ number + 1 →
         IsHeard sides Source (calls.ReadNext (record { place = places.Frozen job.id start.to; offset = offset }) 65536) look → IsCopyLook start one two trees made look
-    by_write : (call : Call) → IsNext sides.source_tells made.rest call → IsHeard sides Target call look → IsCopyLook start one two trees made look
+    by_write : (call : Call) → IsNext sides.source_tells made.rest call → up_to_last made.made ≤ look.reply.position → IsHeard sides Target call look → IsCopyLook start one two trees made look
 
   -- a sync that no reply ended
   pub data EndsAlone (start : SyncStart) (one two : Look) (trees : HasTrees start one two) (made : HasMade start one two trees) : Type 0 where
-    -- all calls of the plan were accepted
-    done : report.answer ≡ answers.Done → made.rest ≡ [] → made.faulted ≡ [] → length report.copies ≡ length (jobs start one two trees) → EndsAlone start one two trees made
+    -- all calls of the plan were accepted, the one behind the copies too
+    done : (one : Made) → made.all.last ≡ one ∷ [] → report.answer ≡ answers.Done → made.rest ≡ [] → made.faulted ≡ [] → length report.copies ≡ length (jobs start one two trees) → EndsAlone start one two trees made
     -- the first path of the plan's calls that passes a limit
     limit : (path : List ℕ) → report.answer ≡ answers.PathLimit path → made.made ≡ [] → slice_get (bad_paths (planned start one two trees)) 0 ≡ Some path → EndsAlone start one two trees made
     wanting : report.answer ≡ answers.NoMemory → EndsAlone start one two trees made
