@@ -100,7 +100,7 @@ module _ (ask : SyncAsk) (page : ℕ) (sides : SyncSides) (report : SyncReport) 
   -- a sync that no reply ended
   pub data EndsAlone (start : SyncStart) (one two : Look) (trees : HasTrees start one two) (made : HasMade start one two trees) : Type 0 where
     -- all calls of the plan were accepted, the one behind the copies too
-    done : (one : Made) → made.all.last ≡ one ∷ [] → report.answer ≡ answers.Done → made.rest ≡ [] → made.faulted ≡ [] → length report.copies ≡ length (jobs start one two trees) → EndsAlone start one two trees made
+    done : (deleted : Made) → made.all.last ≡ deleted ∷ [] → report.answer ≡ answers.Done → made.rest ≡ [] → made.faulted ≡ [] → length report.copies ≡ length (jobs start one two trees) → EndsAlone start one two trees made
     -- the first path of the plan's calls that passes a limit
     limit : (path : List ℕ) → report.answer ≡ answers.PathLimit path → made.made ≡ [] → slice_get (bad_paths (planned start one two trees)) 0 ≡ Some path → EndsAlone start one two trees made
     wanting : report.answer ≡ answers.NoMemory → EndsAlone start one two trees made

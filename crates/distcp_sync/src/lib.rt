@@ -3,6 +3,7 @@
 
 pub mod answer;
 mod fetching;
+pub mod laws;
 pub mod report;
 pub mod start;
 pub mod syncing;
