@@ -51,7 +51,7 @@ ok-blanked replies.NoMemory = refl
 
 fault-accepted : (b : Bool) → b ≡ true → is_accepted (cond b Faulted Accepted) ≡ false
 fault-accepted true e = refl
-fault-accepted false e = absurd (true_false (sym e) refl)
+fault-accepted false e = absurd (true_false e refl)
 
 module _ (sides : SyncSides) (side : Side) (call : Call) (look : Look) (heard : IsHeard sides side call look) (free : IsFree (side_at sides side)) where
   -- the plain machine's reply, but for bytes that aren't told, or NoMemory
