@@ -1,6 +1,6 @@
 -- What the words mean, by what `clap` answers.
-use Rattle.std.specs.Prelude.{◌≡◌, ◌&&◌, ◌||◌, ◌++◌, Bool, true, false, not, List, [], ◌∷◌, Option, Some, None, Result, Ok, Err, IfOk, option_and_then, option_map, bytes_eq}
-use Rattle.std.specs.List.{All, list_all, list_any, find}
+use Rattle.std.specs.Prelude.{◌≡◌, ◌&&◌, ◌||◌, ◌++◌, Bool, true, false, not, List, [], ◌∷◌, Option, Some, None, Result, Err, IfOk, option_and_then, option_map}
+use Rattle.std.specs.List.{All, find}
 use Rattle.std.specs.Option.{ok_or}
 use Rattle.std.specs.Str.{IsUtf8}
 use Rattle.std.proofs.Common.{refl, ap, ap₂, sym, subst, cond, true≢false, inl, inr, ◌∙◌}
@@ -12,13 +12,13 @@ use Rattle.clap.specs.Values.{kind_of}
 use Rattle.clap.specs.declared.error.Error.{Error}
 use Rattle.clap.specs.declared.error.kind.ErrorKind.TheVariants as kinds
 use Rattle.clap.specs.Walk.{finished, nothing_held, walk, walk_from}
-use Rattle.hsnap.specs.CommandLine.{Part, mode, Given, Form, ends, option as option_word, option_with, unknown, plain, form_of, has_name, is_given, is_right, text_of, with_part, begins_with_hyphen, meaning_of_parts, meaning_of_words, mode_of, words_in}
-use Rattle.hsnap.specs.CommandLine.{Place, any_word, number_of, mode_only, Read, then_at, word_read, number_read, next_read, end_read, parts_from, parts_of}
+use Rattle.hsnap.specs.CommandLine.{Part, mode, Given, Form, ends, option as option_word, option_with, unknown, plain, form_of, has_name, is_given, is_right, text_of, begins_with_hyphen, meaning_of_parts, meaning_of_words, mode_of, words_in}
+use Rattle.hsnap.specs.CommandLine.{Place, any_word, number_of, mode_only, Read, then_at, word_read, number_read, next_read, parts_from, parts_of}
 use Rattle.hsnap.specs.declared.command_line.Words.{Words}
-use Rattle.hsnap.specs.inside.ClapRows.{are_right, command_app, row, rows}
+use Rattle.hsnap.specs.inside.ClapRows.{are_right, command_app, rows}
 use Rattle.hsnap.proofs.ClapRules.{all_rules, free, passing, simple}
 use Rattle.hsnap.proofs.ClapTurns.{fault-is, found, matches-are, total}
-use Rattle.hsnap.proofs.ClapWords.{finish, if_mode, reads}
+use Rattle.hsnap.proofs.ClapWords.{finish, reads}
 
 -- ---- every text that is given is right
 

@@ -1,22 +1,19 @@
 -- `clap` reads the words as the command line says.
-use Rattle.std.specs.Prelude.{◌≡◌, ◌+◌, ◌==◌, ◌&&◌, ◌||◌, ◌<◌, ℕ, Bool, zero, suc, true, false, not, List, [], ◌∷◌, ◌++◌, length, Option, Some, None, option_and_then, option_map, is_some, bytes_eq}
+use Rattle.std.specs.Prelude.{◌≡◌, ◌==◌, ◌&&◌, ℕ, Bool, true, false, List, [], ◌∷◌, Option, Some, None, option_map, bytes_eq}
 use Rattle.std.specs.Option.{option_map_or}
-use Rattle.std.specs.List.{All, list_any, find, fold, before_first}
+use Rattle.std.specs.List.{All, before_first}
 use Rattle.std.specs.Str.{chars, IsUtf8}
-use Rattle.std.proofs.Common.{refl, ap, ap₂, sym, subst, cond, true≢false, arith, ◌∙◌}
+use Rattle.std.proofs.Common.{refl, ap, ap₂, sym, cond, true≢false, arith, ◌∙◌}
 use Rattle.std.proofs.lemmas.List.Elements.{All-tail}
-use Rattle.clap.specs.Words.{Row, Rule, Text}
-use Rattle.clap.specs.Kinds.{Kinds, or_else, check_kinds}
+use Rattle.clap.specs.Words.{Row, Text}
+use Rattle.clap.specs.Kinds.{Kinds, or_else}
 use Rattle.clap.specs.Lexer.{short_of}
-use Rattle.clap.specs.Takes.{is_given as is_given_by_rows}
-use Rattle.clap.specs.Walk.{Held, Walk, idle, option, option_word as option_value, arg_by_id, arg_by_long, finished, settled, used, walked, after_flag, after_step, long_met}
-use Rattle.clap.specs.Faults.{check_fault, defaults_fault, flags_fault, long_fault, settle_fault, step_fault, turn_fault, use_fault, walk_fault}
+use Rattle.clap.specs.Walk.{Held, Walk, option_word as option_value, arg_by_id, arg_by_long, settled, walked}
+use Rattle.clap.specs.Faults.{check_fault, flags_fault, long_fault, settle_fault, turn_fault, use_fault, walk_fault}
 use Rattle.clap.specs.declared.error.kind.ErrorKind.TheVariants as kinds
-use Rattle.hsnap.specs.CommandLine.{Part, mode, page, workers, seed, name_of, Given, has_name, is_given, is_right, with_part, Form, ends, option as option_word, option_with, unknown, plain, form_of, option_form, option_named, hyphen_form, number_behind, with_number}
-use Rattle.hsnap.specs.CommandLine.{Place, any_word, number_of, mode_only, Read, then_at, word_read, number_read, next_read, end_read, parts_from, begins_with_hyphen}
-use Rattle.hsnap.specs.inside.ClapRows.{row, rows}
-use Rattle.hsnap.proofs.ClapRules.{all_rules, by_id, by_long, defaults-pass, false-else, find-rows, finished-is, passing, passing-or_else, rule, shape, use-none, use-passes, use-rows}
-use Rattle.hsnap.proofs.ClapTurns.{at-hyphen, chars-behind, end_fault, first-value, form_found, found, idle_walk, option_walk, other-value, settled_as, settles, step, total, trailing-found, value_found, word-found}
+use Rattle.hsnap.specs.CommandLine.{Part, mode, page, workers, seed, name_of, Form, ends, option as option_word, option_with, unknown, plain, form_of, option_named, number_behind}
+use Rattle.hsnap.proofs.ClapRules.{all_rules, by_id, by_long, defaults-pass, finished-is, passing, passing-or_else, rule, shape, use-none}
+use Rattle.hsnap.proofs.ClapTurns.{at-hyphen, chars-behind, first-value, form_found, found, idle_walk, option_walk, other-value, settled_as, settles, step, trailing-found, value_found, word-found}
 
 -- ---- the end of the words
 

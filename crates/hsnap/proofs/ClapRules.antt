@@ -1,24 +1,21 @@
 -- The command that `clap` reads the words by, and what it makes of one part.
-use Rattle.std.specs.Prelude.{◌≡◌, ◌+◌, ◌==◌, ◌&&◌, ◌||◌, ℕ, Bool, true, false, not, pos, List, [], ◌∷◌, ◌++◌, map, Option, Some, None, option_map, is_some, codes, bytes_eq}
-use Rattle.std.specs.Option.{option_map_or}
-use Rattle.std.specs.List.{list_any, find, fold}
+use Rattle.std.specs.Prelude.{◌≡◌, ◌&&◌, ◌||◌, Bool, true, false, not, List, [], ◌∷◌, ◌++◌, Some, None, option_map, codes, bytes_eq}
+use Rattle.std.specs.List.{find, fold}
 use Rattle.std.proofs.Common.{refl, ap, ap₂, sym, cond, true≢false, append-nil, ◌∙◌}
 use Rattle.std.proofs.lemmas.List.{map-append}
-use Rattle.clap.specs.Words.{App, Row, Rule, Text, new_app, new_rule, with_rule, is_simple, is_simple_and_free, built}
+use Rattle.clap.specs.Words.{App, Row, Rule, Text, is_simple, is_simple_and_free, built}
 use Rattle.clap.specs.Kinds.{Kinds, or_else}
-use Rattle.clap.specs.Simple.{Shape, on_top}
-use Rattle.clap.specs.Values.{reading_of}
+use Rattle.clap.specs.Simple.{Shape}
 use Rattle.clap.specs.Walk.{Held, arg_by_id, arg_by_long, at_row, has_row, more_values, finished, settled, used, with_default}
-use Rattle.clap.specs.Faults.{use_fault, defaults_fault, default_fault}
+use Rattle.clap.specs.Faults.{use_fault, defaults_fault}
 use Rattle.clap.specs.declared.builder.action.ArgAction.TheVariants.{Set}
-use Rattle.clap.specs.declared.builder.value_parser.ValueParser.{ValueParser}
 use Rattle.clap.specs.declared.builder.value_parser.ValueParser.TheVariants as parsers
 use Rattle.clap.specs.declared.parser.matches.ValueSource.TheVariants as sources
 use Rattle.clap.specs.declared.error.kind.ErrorKind.{ErrorKind}
 use Rattle.clap.specs.declared.error.kind.ErrorKind.TheVariants as kinds
 use Rattle.clap.proofs.OnLiterals.{clap_on_literals}
-use Rattle.hsnap.specs.inside.ClapRows.{parser_of, mode_rule, option_rule, plain_app, command_app, row, rows}
-use Rattle.hsnap.specs.CommandLine.{Part, mode, page, workers, seed, name_of, Given, has_name, is_given, text_of, is_right, option_named}
+use Rattle.hsnap.specs.inside.ClapRows.{mode_rule, option_rule, plain_app, command_app, row, rows}
+use Rattle.hsnap.specs.CommandLine.{Part, mode, page, workers, seed, name_of, Given, has_name, is_given, is_right, option_named}
 
 -- ---- the command, as it is built
 

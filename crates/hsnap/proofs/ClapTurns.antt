@@ -1,17 +1,16 @@
 -- What `clap` makes of the words one after the other.
-use Rattle.std.specs.Prelude.{◌≡◌, ◌+◌, ◌==◌, ◌&&◌, ◌||◌, ℕ, Bool, zero, suc, true, false, not, List, [], ◌∷◌, ◌++◌, length, Option, Some, None, option_and_then, option_map, is_some, slice_get, bytes_eq, encode_utf8_all}
-use Rattle.std.specs.Option.{option_map_or}
-use Rattle.std.specs.List.{list_any, fold}
+use Rattle.std.specs.Prelude.{◌≡◌, ◌==◌, ◌&&◌, ◌||◌, ℕ, Bool, true, false, List, [], ◌∷◌, Option, Some, None, option_map, encode_utf8_all}
+use Rattle.std.specs.List.{fold}
 use Rattle.std.specs.Str.{chars, IsUtf8}
 use Rattle.std.specs.List.{before_first}
-use Rattle.std.proofs.Common.{refl, ap, ap₂, sym, subst, cond, true≢false, arith, ◌∙◌}
+use Rattle.std.proofs.Common.{refl, ap, ap₂, sym, subst, cond, arith, ◌∙◌}
 use Rattle.std.proofs.lemmas.Bool.{eqb-true}
 use Rattle.std.proofs.lemmas.Str.{IsUtf8-drop, IsCharBoundary-after_ascii, encodes-chars}
 use Rattle.clap.specs.Words.{Row, Rule, Text, fault_of, matches_of}
 use Rattle.clap.specs.Kinds.{Kinds, or_else}
-use Rattle.clap.specs.Lexer.{long_of, short_of}
-use Rattle.clap.specs.Walk.{Held, Walk, Waiting, idle, option, Step, arg_by_long, arg_by_index, finished, nothing_held, rows_after, settled, to_positional, used, value, after_flag, after_step, long_met, is_pending, pushed, walk, walk_from, walked, word_met}
-use Rattle.clap.specs.Faults.{built_fault, check_fault, defaults_fault, flags_fault, level_fault, long_fault, settle_fault, step_fault, turn_fault, use_fault, walk_fault}
+use Rattle.clap.specs.Lexer.{short_of}
+use Rattle.clap.specs.Walk.{Held, Walk, idle, option, arg_by_long, arg_by_index, finished, nothing_held, rows_after, settled, to_positional, used, value, after_flag, after_step, long_met, is_pending, pushed, walk, walk_from, walked}
+use Rattle.clap.specs.Faults.{built_fault, check_fault, defaults_fault, flags_fault, long_fault, settle_fault, step_fault, turn_fault, use_fault, walk_fault}
 use Rattle.clap.specs.Simple.{names_of}
 use Rattle.clap.specs.declared.error.kind.ErrorKind.TheVariants as kinds
 use Rattle.clap.proofs.FaultLemmas.{leaf_fault}

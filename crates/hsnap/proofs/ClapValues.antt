@@ -1,12 +1,12 @@
 -- What the getters read of the parts that were given.
-use Rattle.std.specs.Prelude.{◌≡◌, ◌==◌, ◌&&◌, ◌<◌, ◌≤◌, ◌^◌, ℕ, Bool, true, false, pos, List, [], ◌∷◌, Option, Some, None, Result, Ok, Err, IfSome, IfNone, option_and_then, option_map, bytes_eq, slice_get, unwrap_or}
+use Rattle.std.specs.Prelude.{◌≡◌, ◌==◌, ◌<◌, ◌≤◌, ◌^◌, ℕ, Bool, true, false, pos, List, [], ◌∷◌, Option, Some, None, Result, Ok, Err, IfSome, IfNone, option_and_then, option_map, bytes_eq, slice_get, unwrap_or}
 use Rattle.std.specs.List.{find}
 use Rattle.std.specs.Str.Parse.{IsNumeral, ParsesUnsigned, digits_value, starts_with_minus, without_leading_plus, without_leading_sign}
-use Rattle.std.proofs.Common.{refl, ap, ap₂, sym, subst, cond, drop, true≢false, arith, ◌∙◌}
+use Rattle.std.proofs.Common.{refl, ap, sym, subst, cond, drop, true≢false, arith, ◌∙◌}
 use Rattle.std.proofs.lemmas.Bool.{ne_eqb}
 use Rattle.std.proofs.lemmas.Str.Parse.{digit_from_value}
 use Rattle.std.proofs.lemmas.Int.{ints}
-use Rattle.clap.specs.Words.{Row, Text, IsSignedIn, found_of, first_value, first_of, one_of, one_text, read_as, reading_of, rows_of, without_minus}
+use Rattle.clap.specs.Words.{Row, Text, IsSignedIn, first_value, first_of, one_of, one_text, read_as, reading_of, rows_of, without_minus}
 use Rattle.clap.specs.Matches.{ReadsOne}
 use Rattle.clap.specs.Walk.{row_text}
 use Rattle.clap.specs.declared.builder.value_parser.ValueParser.TheVariants as parsers

@@ -1,23 +1,22 @@
 -- What `clap` finds in the words is what they give.
-use Rattle.std.specs.Prelude.{◌≡◌, ◌+◌, ◌==◌, ◌&&◌, ◌||◌, ◌<◌, ℕ, Bool, zero, suc, true, false, not, List, [], ◌∷◌, ◌++◌, length, Option, Some, None, option_and_then, option_map, is_some, bytes_eq, codes}
+use Rattle.std.specs.Prelude.{◌≡◌, ◌==◌, ◌&&◌, ◌||◌, Bool, true, false, not, List, [], ◌∷◌, ◌++◌, Option, Some, None, option_and_then, option_map, bytes_eq, codes}
 use Rattle.std.specs.Option.{option_map_or}
-use Rattle.std.specs.List.{All, list_any, find, before_first}
+use Rattle.std.specs.List.{All, find, before_first}
 use Rattle.std.specs.Str.{IsUtf8}
-use Rattle.std.proofs.Common.{refl, ap, ap₂, sym, subst, cond, true≢false, arith, ◌∙◌}
+use Rattle.std.proofs.Common.{refl, ap, sym, cond, true≢false, arith, ◌∙◌}
 use Rattle.std.proofs.lemmas.List.Elements.{All-tail}
 use Rattle.std.proofs.lemmas.List.Folds.{list_any-append}
-use Rattle.std.proofs.lemmas.Bool.{eqb-true}
-use Rattle.clap.specs.Words.{Row, Rule, Text}
+use Rattle.clap.specs.Words.{Row, Text}
 use Rattle.clap.specs.Facts.{explicit_source}
 use Rattle.clap.specs.Takes.{is_given as is_given_by_rows}
-use Rattle.clap.specs.Walk.{Walk, arg_by_id, used, used_by_id}
+use Rattle.clap.specs.Walk.{Walk, used, used_by_id}
 use Rattle.clap.specs.Faults.{use_fault}
 use Rattle.clap.specs.declared.error.kind.ErrorKind.{ErrorKind}
-use Rattle.hsnap.specs.CommandLine.{Part, mode, page, workers, seed, name_of, Given, has_name, is_given, is_right, with_part, Form, ends, option as option_word, option_with, unknown, plain, form_of, option_form, option_named, hyphen_form, number_behind, with_number}
-use Rattle.hsnap.specs.CommandLine.{Place, any_word, number_of, mode_only, Read, then_at, word_read, number_read, next_read, end_read, parts_from, begins_with_hyphen}
+use Rattle.hsnap.specs.CommandLine.{Part, mode, page, workers, seed, name_of, Given, has_name, is_given, is_right, Form, ends, option as option_word, option_with, unknown, plain, form_of, option_form, hyphen_form, number_behind, with_number}
+use Rattle.hsnap.specs.CommandLine.{Place, any_word, number_of, mode_only, Read, then_at, word_read, number_read, parts_from}
 use Rattle.hsnap.specs.inside.ClapRows.{row, rows}
-use Rattle.hsnap.proofs.ClapRules.{all_rules, by_id, false-else, find-rows, passing, rule, use-passes, use-rows}
-use Rattle.hsnap.proofs.ClapTurns.{at-hyphen, first-value, form_found, found, idle_walk, option_walk, other-value, settled_as, settles, trailing-found, value_found, word-found}
+use Rattle.hsnap.proofs.ClapRules.{by_id, false-else, find-rows, passing, rule, use-passes, use-rows}
+use Rattle.hsnap.proofs.ClapTurns.{at-hyphen, first-value, form_found, found, idle_walk, option_walk, other-value, settled_as, trailing-found, value_found, word-found}
 use Rattle.hsnap.proofs.ClapReads.{end-found, number-empty, number-hyphen, number-plain, place_of, rows_found, settling, waits-fail, waits-hyphen}
 
 -- ---- the end

@@ -1,5 +1,5 @@
 -- What the words of the command line mean: `MODE [--page N] [--workers N] [--seed N]`, read word by word.
-use Rattle.std.specs.Prelude.{◌==◌, ◌&&◌, ◌++◌, ℕ, ℤ, Bool, true, false, not, pos, negsuc, int_le, nat_le, nat_lt, ◌^◌, if◌then◌else◌}
+use Rattle.std.specs.Prelude.{◌==◌, ◌&&◌, ◌++◌, ℕ, ℤ, Bool, true, false, not, pos, negsuc, int_le, nat_lt, ◌^◌, if◌then◌else◌}
 use Rattle.std.specs.Prelude.{List, [], ◌∷◌, length, find, Option, Some, None, option_map, option_and_then, codes, bytes_eq}
 use Rattle.std.specs.List.{list_any, list_all, before_first, after_first}
 use Rattle.std.specs.Option.{option_map_or}

@@ -1,5 +1,5 @@
 -- What `clap` is told of the command line, and what it keeps of the parts that words give.
-use Rattle.std.specs.Prelude.{◌≡◌, Bool, true, pos, List, [], ◌∷◌, map, Some, None, codes}
+use Rattle.std.specs.Prelude.{Bool, true, pos, List, [], ◌∷◌, map, Some, None, codes}
 use Rattle.std.specs.List.{list_all}
 use Rattle.clap.specs.Words.{App, Row, Rule, new_app, new_rule, with_rule}
 use Rattle.clap.specs.Simple.{on_top}

@@ -1,9 +1,9 @@
-use Rattle.std.proofs.Common.{rules, ◌≡◌, ◌∙◌, ap, ap₂, refl, codes, true, pos, Some}
+use Rattle.std.proofs.Common.{rules, ◌≡◌, ◌∙◌, ap, ap₂, codes, true, pos, Some}
 use Rattle.std.proofs.lemmas.Result.{IfOk-weaker}
 use Rattle.clap.specs.Words.{app_of, new_app, new_rule, rule_of, with_rule}
 use Rattle.clap.specs.Simple.{app_of_fields, on_top}
 use Rattle.clap.specs.declared.builder.value_parser.ValueParser.TheVariants as parsers
-use Rattle.hsnap.specs.CommandLine.{page, workers, seed, name_of}
+use Rattle.hsnap.specs.CommandLine.{page, workers, seed}
 use Rattle.hsnap.specs.inside.ClapRows.{mode_rule, option_rule, plain_app}
 use Rattle.hsnap.proofs.command_line.command.Goals as goal
 
