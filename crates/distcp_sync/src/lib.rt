@@ -2,7 +2,10 @@
 #![tactic(auto)]
 
 pub mod answer;
+mod answering;
+mod copying_all;
 mod fetching;
+mod moving;
 pub mod report;
 pub mod start;
 pub mod syncing;
