@@ -3,6 +3,7 @@
 
 pub mod answer;
 mod answering;
+mod beginning;
 mod copying_all;
 mod fetching;
 mod moving;
