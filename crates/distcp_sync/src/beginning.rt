@@ -130,7 +130,7 @@ fn ask_changes<L: NameLink>(
     let cursor = ReportCursor {
         root: start.target,
         from: start.base,
-        to: SnapId::NOW,
+        to: SnapId(0),
         tick: None,
         index: 0,
     };
