@@ -36,12 +36,7 @@ pub fn sync_one<L: NameLink>(
 }
 
 // Open: `calls` and `synced` above are to come from a law over `IsRun`; the proof of `ran`.
-fn run_sync<L: NameLink>(
-    alloc: Global,
-    source: &mut L,
-    target: &mut L,
-    job: &SyncJob,
-) -> SyncReport
+fn run_sync<L: NameLink>(alloc: Global, source: &mut L, target: &mut L, job: &SyncJob) -> SyncReport
     ensures numbers { (L.number source.new ≡ L.number source.old) × (L.number target.new ≡ L.number target.old) }
     ensures alone { (L.alone source.new ≡ L.alone source.old) × (L.alone target.new ≡ L.alone target.old) }
     ensures stays { (L.stays source.old source.new) × (L.stays target.old target.new) }
@@ -50,7 +45,15 @@ fn run_sync<L: NameLink>(
     let mut moves = Vec::new(alloc);
     let mut copies = Vec::new(alloc);
     let mut looks = Vec::new(alloc);
-    let answer = match run(alloc, source, target, job, &mut moves, &mut copies, &mut looks) {
+    let answer = match run(
+        alloc,
+        source,
+        target,
+        job,
+        &mut moves,
+        &mut copies,
+        &mut looks,
+    ) {
         Ok(()) => SyncAnswer::Done,
         Err(answer) => answer,
     };
@@ -95,7 +98,17 @@ fn run_with_room<L: NameLink>(
 {
     let start = begin(job, source, target, looks)?;
     let plan = planned(alloc, &start, job, source, target, looks)?;
-    carry(alloc, &start, &job.target_root, &plan, source, target, moves, copies, looks)
+    carry(
+        alloc,
+        &start,
+        &job.target_root,
+        &plan,
+        source,
+        target,
+        moves,
+        copies,
+        looks,
+    )
 }
 
 fn planned<L: NameLink>(
@@ -109,7 +122,13 @@ fn planned<L: NameLink>(
     requires room { vec_len looks.old < vec_capacity looks.old }
 {
     let fetched = fetch(alloc, start, job.page, source, target, looks)?;
-    match plan(alloc, &fetched.lines, &fetched.listings, &fetched.roots, &job.target_root) {
+    match plan(
+        alloc,
+        &fetched.lines,
+        &fetched.listings,
+        &fetched.roots,
+        &job.target_root,
+    ) {
         Ok(plan) => Ok(plan),
         Err(PlanFault::PathLimit { path }) => Err(SyncAnswer::PathLimit { path }),
         Err(PlanFault::NoMemory) => Err(SyncAnswer::NoMemory),
@@ -132,7 +151,15 @@ fn carry<L: NameLink>(
 {
     make_moves(alloc, root, plan, target, moves, looks)?;
     reserve_copies(plan, copies)?;
-    copy_all(alloc, plan.copies.items(), start.to, root, source, target, copies)?;
+    copy_all(
+        alloc,
+        plan.copies.items(),
+        start.to,
+        root,
+        source,
+        target,
+        copies,
+    )?;
     delete_tmp(alloc, root, plan, target, moves, looks)
 }
 
