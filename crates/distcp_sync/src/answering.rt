@@ -1,5 +1,5 @@
 //! What a sync makes of a reply that ends it.
-ghost use Rattle.distcp_sync.specs.Told.{OrNoMemory, answer_at as told_answer};
+ghost use Rattle.distcp_sync.specs.Told.{OrNoMemory, answer_at as told_answer, refusal_answer as told_refusal, refused_answer as told_refused};
 
 use crate::answer::SyncAnswer;
 use copy_workers::Look;
@@ -15,7 +15,9 @@ pub(crate) fn answer_at(look: &Look) -> SyncAnswer
     }
 }
 
-fn refusal_answer(side: Side, told: &Answered, why: Refusal) -> SyncAnswer {
+fn refusal_answer(side: Side, told: &Answered, why: Refusal) -> SyncAnswer
+    ensures { OrNoMemory (told_refusal side told.now why) result }
+{
     match why {
         Refusal::Gone => SyncAnswer::Gone { side },
         Refusal::StoreFault => SyncAnswer::StoreFault {
@@ -27,7 +29,9 @@ fn refusal_answer(side: Side, told: &Answered, why: Refusal) -> SyncAnswer {
     }
 }
 
-fn refused_answer(back: &Option<Call>, refusal: Refusal, position: u64) -> SyncAnswer {
+fn refused_answer(back: &Option<Call>, refusal: Refusal, position: u64) -> SyncAnswer
+    ensures { OrNoMemory (told_refused back.now refusal position) result }
+{
     match back {
         Some(call) => match call.copy() {
             Ok(call) => SyncAnswer::Refused {
