@@ -2,6 +2,7 @@
 #![tactic(auto)]
 
 pub mod answer;
+mod contents;
 mod fetching;
 mod queue;
 pub mod report;
