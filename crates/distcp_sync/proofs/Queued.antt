@@ -100,9 +100,9 @@ module _ (from to : Tree (List ℕ)) (is : IsPair from to) where
   first-one : (one : Line) → (one.kind ≡ Created → (path : Names) × IsNew from to (record { id = one.id; is_dir = one.is_dir; path = path })) → Both (created_dir_id one) (created_dir to one)
   first-one one tells = by (is_created one.kind && one.is_dir)
       (λ t. let told : (path : Names) × IsNew from to (record { id = one.id; is_dir = one.is_dir; path = path }) = tells (kind-so one.kind (first (is_created one.kind) one.is_dir t)) in
-        subst (λ b. Both (cond b (Some one.id) None) (cond b (path_at (place_of to one.id)) None)) (sym t)
-        (subst (λ o. Both (Some one.id) (path_at o)) (sym (place_of-here to is.to_tree told.0 told.1.node one.id told.1.at (sym told.1.same_id)))
-        (record { new = record { node = told.1.node; at = told.1.at; dir = told.1.same_kind ∙ second (is_created one.kind) one.is_dir t; new = told.1.new }; same = λ i. record { 0 = told.1.same_id i } })))
+      subst (λ b. Both (cond b (Some one.id) None) (cond b (path_at (place_of to one.id)) None)) (sym t)
+      (subst (λ o. Both (Some one.id) (path_at o)) (sym (place_of-here to is.to_tree told.0 told.1.node one.id told.1.at (sym told.1.same_id)))
+      (record { new = record { node = told.1.node; at = told.1.at; dir = told.1.same_kind ∙ second (is_created one.kind) one.is_dir t; new = told.1.new }; same = λ i. record { 0 = told.1.same_id i } })))
       (λ f. subst (λ b. Both (cond b (Some one.id) None) (cond b (path_at (place_of to one.id)) None)) (sym f) tt)
 
   first-at : (list : List Line) → AllByRecursion (λ (one : Line). one.kind ≡ Created → IsNew from to (record { id = one.id; is_dir = one.is_dir; path = translate lines (parent_of one.path) ++ last_of one.path ∷ [] })) list → AreAt (filter_map created_dir_id list) (filter_map (created_dir to) list)
@@ -121,8 +121,8 @@ module _ (from to : Tree (List ℕ)) (is : IsPair from to) where
     child-old q m n at below None was =
         subst (λ b. Both (cond (is_dir m && not b) (Some m.id) None) (cond (is_dir m) (Some q) None)) (sym (no-line-of from to is m.id was))
         (by (is_dir m)
-          (λ t. subst (λ b. Both (cond (b && true) (Some m.id) None) (cond b (Some q) None)) (sym t) (record { new = record { node = m; at = at; dir = t; new = was }; same = refl }))
-          (λ f. subst (λ b. Both (cond (b && true) (Some m.id) None) (cond b (Some q) None)) (sym f) tt))
+        (λ t. subst (λ b. Both (cond (b && true) (Some m.id) None) (cond b (Some q) None)) (sym t) (record { new = record { node = m; at = at; dir = t; new = was }; same = refl }))
+        (λ f. subst (λ b. Both (cond (b && true) (Some m.id) None) (cond b (Some q) None)) (sym f) tt))
 
     children-at : (places : Tree (List ℕ)) → ((place : Names × Node (List ℕ)) → In places place → node_at to place.0 ≡ Some place.1) → AreAt (filter_map (new_dir_id lines) (filter_map (child_item above) places)) (filter_map (new_child from above) places)
     children-at [] within = tt
@@ -155,7 +155,7 @@ module _ (from to : Tree (List ℕ)) (is : IsPair from to) where
       let items : one.items ≡ listing to path = queued.1 path at.0.new.node at.0.new.at at.0.same in
       let here : listing_at to path ≡ Some one = ap (option_map (λ (node : Node (List ℕ)). record { dir = node.id; items = listing to path })) at.0.new.at ∙ (λ i. Some (record { dir = (at.0.same ∙ sym queued.0) i; items = sym items i })) in
       let rest : IsFrontOf most (waiting_dirs most from to (paths ++ new_dirs_in from to path)) listings = go most (ids ++ new_ids lines one.items) (paths ++ new_dirs_in from to path) listings
-          (at-append ids (new_ids lines one.items) paths (new_dirs_in from to path) at.1 (subst (λ (x : List Item). AreAt (new_ids lines x) (new_dirs_in from to path)) (sym items) (all-children-at path at.0.new))) queued.2 in
+      (at-append ids (new_ids lines one.items) paths (new_dirs_in from to path) at.1 (subst (λ (x : List Item). AreAt (new_ids lines x) (new_dirs_in from to path)) (sym items) (all-children-at path at.0.new))) queued.2 in
       record {
         same = ap (λ o. cons_option o (filter_map (listing_at to) (waiting_dirs most from to (paths ++ new_dirs_in from to path)))) here ∙ ap (λ (x : List Listing). one ∷ x) rest.same;
         long = ap suc rest.long;

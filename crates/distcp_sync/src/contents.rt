@@ -28,15 +28,21 @@ pub(crate) fn joined_items(
 
 /// Adds what a page holds, and gives back what is no page.
 fn add_page(items: &mut Vec<Item>, answered: Answered) -> Result<Option<Answered>, NoMemory> {
-    match answered {
-        Answered {
-            reply: Reply::Page { items: more, .. },
-            ..
-        } => {
+    let Answered {
+        reply,
+        position,
+        back,
+    } = answered;
+    match reply {
+        Reply::Page { items: more, .. } => {
             add_items(items, more)?;
             Ok(None)
         }
-        answered => Ok(Some(answered)),
+        reply => Ok(Some(Answered {
+            reply,
+            position,
+            back,
+        })),
     }
 }
 
@@ -63,15 +69,21 @@ pub(crate) fn joined_lines(
 
 /// Adds the lines of a page, and gives back what is no page.
 fn add_report(lines: &mut Vec<Line>, answered: Answered) -> Result<Option<Answered>, NoMemory> {
-    match answered {
-        Answered {
-            reply: Reply::Report { lines: more, .. },
-            ..
-        } => {
+    let Answered {
+        reply,
+        position,
+        back,
+    } = answered;
+    match reply {
+        Reply::Report { lines: more, .. } => {
             add_lines(lines, more)?;
             Ok(None)
         }
-        answered => Ok(Some(answered)),
+        reply => Ok(Some(Answered {
+            reply,
+            position,
+            back,
+        })),
     }
 }
 

@@ -10,8 +10,8 @@ use copy_workers::Look;
 use distcp_plan::Moves;
 use hs_plain::{Listing, RootNames};
 use hs_types::{
-    Answered, Call, CallerId, Duplicate, InodeId, Item, Line, List, ListCursor, Name, NoMemory, PageSize,
-    Place, Refusal, Reply, ReportCursor, Side, SnapId,
+    Answered, Call, CallerId, Duplicate, InodeId, Item, Line, List, ListCursor, Name, NoMemory,
+    PageSize, Place, Refusal, Reply, ReportCursor, Side, SnapId,
 };
 use page_join::{ListStart, NameLink, ReportStart, list_all, report_all};
 use std::alloc::Global;
@@ -176,7 +176,14 @@ fn fetch_listings<L: NameLink>(
             return Err(SyncAnswer::NoMemory);
         }
         let dir = ids[listings.len()];
-        let items = fetch_items(alloc, source, Side::Source, Place::Frozen(dir, to), page, looks)?;
+        let items = fetch_items(
+            alloc,
+            source,
+            Side::Source,
+            Place::Frozen(dir, to),
+            page,
+            looks,
+        )?;
         if add_listing(&moves, dir, items, &mut ids, &mut listings).is_err() {
             return Err(SyncAnswer::NoMemory);
         }
@@ -231,9 +238,9 @@ fn refusal_answer(side: Side, told: &Answered, refusal: &Refusal) -> SyncAnswer 
 }
 
 fn refused_answer(told: &Answered, refusal: &Refusal) -> SyncAnswer {
-    match (&told.back, refusal.copy()) {
-        (Some(call), Ok(refusal)) => call_answer(call, refusal, told.position),
-        _ => SyncAnswer::NoMemory,
+    match &told.back {
+        Some(call) => call_answer(call, *refusal, told.position),
+        None => SyncAnswer::NoMemory,
     }
 }
 
