@@ -83,12 +83,12 @@ module _ (job : SyncJob) (page : ℕ) (sides : SyncSides) (report : SyncReport) 
 
   -- a target that is unchanged: the sync begins
   pub told_begin : (source_now target_now : Known) (looks later : List Look) (start : SyncStart) → IsBegun job source source_now target target_now looks (Ok start) → Goes source_now source_last → Goes target_now target_last →
-      ((now : Known) (one two : Look) → AreRoots job source source_now target now one two → begun (ask_of job) one.reply.reply two.reply.reply ≡ Ok start → HasWorked (ask_of job) page sides report start one two later) →
+      ((now : Known) (one two : Look) → Goes now target_now → AreRoots job source source_now target now one two → begun (ask_of job) one.reply.reply two.reply.reply ≡ Ok start → HasWorked (ask_of job) page sides report start one two later) →
       First (ask_of job) page sides report (looks ++ later)
   told_begin s t looks later start (begins one two three start_is now roots ok good shown) s_goes t_goes worked =
       with_roots s now one two (three ∷ later) (Ok start) roots s_goes (goes_then now t target_last (call_goes now t (unchanged_call start) three.reply good.looked.called) t_goes) ok
         (with_third now t start one two three later true (call_goes target now (calls.Snaps job.target_root) two.reply roots.second.looked.called) good.looked t_goes good.ok
-          (subst (λ (ls : List Line). ByChange (ask_of job) page sides report start one two later ls) (sym shown) (worked now one two roots ok)))
+          (subst (λ (ls : List Line). ByChange (ask_of job) page sides report start one two later ls) (sym shown) (worked now one two (call_goes now t (unchanged_call start) three.reply good.looked.called) roots ok)))
 
   -- ---- a sync that ends in its first steps
 

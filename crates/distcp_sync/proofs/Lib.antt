@@ -4,4 +4,6 @@ mod Spans
 mod Did
 mod Begun
 mod Unmade
+mod Fetches
+mod Trees
 mod Runs
