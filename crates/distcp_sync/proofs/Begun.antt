@@ -56,30 +56,33 @@ module _ (job : SyncJob) (page : ℕ) (sides : SyncSides) (report : SyncReport) 
   -- the first look, and what follows it
   with_first : (now : Known) (one : Look) (looks : List Look) (ok : Bool) → IsLooked Source source now (calls.Snaps job.source_root) one → Goes now source_last → is_ok_reply one.reply.reply ≡ ok →
       Second (ask_of job) page sides report one looks ok → First (ask_of job) page sides report (one ∷ looks)
-  with_first now one looks ok looked after is rest =
-      (heard sides Source source source now source_last (calls.Snaps job.source_root) one around_source (goes_self source) looked after,
-      subst (λ (b : Bool). Second (ask_of job) page sides report one looks b) (sym is) rest)
+  with_first now one looks ok looked after is rest = (
+    heard sides Source source source now source_last (calls.Snaps job.source_root) one around_source (goes_self source) looked after,
+    subst (λ (b : Bool). Second (ask_of job) page sides report one looks b) (sym is) rest,
+  )
 
   -- the second
   with_second : (now : Known) (one two : Look) (looks : List Look) (ok : Bool) → IsLooked Target target now (calls.Snaps job.target_root) two → Goes now target_last → is_ok_reply two.reply.reply ≡ ok →
       AfterSecond (ask_of job) page sides report one two looks ok → Second (ask_of job) page sides report one (two ∷ looks) true
-  with_second now one two looks ok looked after is rest =
-      (heard sides Target target target now target_last (calls.Snaps job.target_root) two around_target (goes_self target) looked after,
-      subst (λ (b : Bool). AfterSecond (ask_of job) page sides report one two looks b) (sym is) rest)
+  with_second now one two looks ok looked after is rest = (
+    heard sides Target target target now target_last (calls.Snaps job.target_root) two around_target (goes_self target) looked after,
+    subst (λ (b : Bool). AfterSecond (ask_of job) page sides report one two looks b) (sym is) rest,
+  )
 
   -- the third
   with_third : (old now : Known) (start : SyncStart) (one two three : Look) (looks : List Look) (ok : Bool) → Goes target old → IsLooked Target old now (unchanged_call start) three → Goes now target_last → is_ok_reply three.reply.reply ≡ ok →
       AfterThird (ask_of job) page sides report start one two three looks ok → Third (ask_of job) page sides report one two (three ∷ looks) (Ok start)
-  with_third old now start one two three looks ok before looked after is rest =
-      (heard sides Target target old now target_last (unchanged_call start) three around_target before looked after,
-      subst (λ (b : Bool). AfterThird (ask_of job) page sides report start one two three looks b) (sym is) rest)
+  with_third old now start one two three looks ok before looked after is rest = (
+    heard sides Target target old now target_last (unchanged_call start) three around_target before looked after,
+    subst (λ (b : Bool). AfterThird (ask_of job) page sides report start one two three looks b) (sym is) rest,
+  )
 
   -- both roots were told
   with_roots : (source_now target_now : Known) (one two : Look) (looks : List Look) (result : Result SyncStart SyncAnswer) → AreRoots job source source_now target target_now one two → Goes source_now source_last → Goes target_now target_last →
       begun (ask_of job) one.reply.reply two.reply.reply ≡ result → Third (ask_of job) page sides report one two looks result → First (ask_of job) page sides report (one ∷ two ∷ looks)
   with_roots source_now target_now one two looks result roots s t is rest =
       with_first source_now one (two ∷ looks) true roots.first.looked s roots.first.ok
-        (with_second target_now one two looks true roots.second.looked t roots.second.ok (subst (λ (r : Result SyncStart SyncAnswer). Third (ask_of job) page sides report one two looks r) (sym is) rest))
+      (with_second target_now one two looks true roots.second.looked t roots.second.ok (subst (λ (r : Result SyncStart SyncAnswer). Third (ask_of job) page sides report one two looks r) (sym is) rest))
 
   -- a target that is unchanged: the sync begins
   pub told_begin : (source_now target_now : Known) (looks later : List Look) (start : SyncStart) → IsBegun job source source_now target target_now looks (Ok start) → Goes source_now source_last → Goes target_now target_last →
@@ -87,8 +90,8 @@ module _ (job : SyncJob) (page : ℕ) (sides : SyncSides) (report : SyncReport) 
       First (ask_of job) page sides report (looks ++ later)
   told_begin s t looks later start (begins one two three start_is now roots ok good shown) s_goes t_goes worked =
       with_roots s now one two (three ∷ later) (Ok start) roots s_goes (goes_then now t target_last (call_goes now t (unchanged_call start) three.reply good.looked.called) t_goes) ok
-        (with_third now t start one two three later true (call_goes target now (calls.Snaps job.target_root) two.reply roots.second.looked.called) good.looked t_goes good.ok
-          (subst (λ (ls : List Line). ByChange (ask_of job) page sides report start one two later ls) (sym shown) (worked now one two (call_goes now t (unchanged_call start) three.reply good.looked.called) roots ok)))
+      (with_third now t start one two three later true (call_goes target now (calls.Snaps job.target_root) two.reply roots.second.looked.called) good.looked t_goes good.ok
+      (subst (λ (ls : List Line). ByChange (ask_of job) page sides report start one two later ls) (sym shown) (worked now one two (call_goes now t (unchanged_call start) three.reply good.looked.called) roots ok)))
 
   -- ---- a sync that ends in its first steps
 
@@ -106,7 +109,7 @@ module _ (job : SyncJob) (page : ℕ) (sides : SyncSides) (report : SyncReport) 
     told_unbegun answer looks same (no_second one ok et) = with_first source_last one [] true ok.looked (goes_self source_last) ok.ok (ends answers.NoMemory (inl (sym same)))
     told_unbegun answer looks same (bad_second one two answer_is ok bad is) =
         with_first source_last one (two ∷ []) true ok.looked (goes_self source_last) ok.ok
-          (with_second target_last one two [] false bad.looked (goes_self target_last) bad.bad (last (root_answer Target two.reply.reply) (subst (OrNoMemory (root_answer Target two.reply.reply)) same is)))
+        (with_second target_last one two [] false bad.looked (goes_self target_last) bad.bad (last (root_answer Target two.reply.reply) (subst (OrNoMemory (root_answer Target two.reply.reply)) same is)))
     told_unbegun answer looks same (not_begun one two expected answer_is roots err is) =
         with_roots source_last target_last one two [] (Err expected) roots (goes_self source_last) (goes_self target_last) err (last expected (subst (OrNoMemory expected) same is))
     told_unbegun answer looks same (no_third one two roots) = no_report one two roots (begun (ask_of job) one.reply.reply two.reply.reply) refl
@@ -116,9 +119,9 @@ module _ (job : SyncJob) (page : ℕ) (sides : SyncSides) (report : SyncReport) 
         no_report one two roots (Err expected) is = with_roots source_last target_last one two [] (Err expected) roots (goes_self source_last) (goes_self target_last) is (last expected (inr (sym same)))
     told_unbegun answer looks same (bad_third one two three start now answer_is roots ok bad is) =
         with_roots source_last now one two (three ∷ []) (Ok start) roots (goes_self source_last) (call_goes now target_last (unchanged_call start) three.reply bad.looked.called) ok
-          (with_third now target_last start one two three [] false (call_goes target now (calls.Snaps job.target_root) two.reply roots.second.looked.called) bad.looked (goes_self target_last) bad.bad
-            (last (answer_at three) (subst (OrNoMemory (answer_at three)) same is)))
+        (with_third now target_last start one two three [] false (call_goes target now (calls.Snaps job.target_root) two.reply roots.second.looked.called) bad.looked (goes_self target_last) bad.bad
+        (last (answer_at three) (subst (OrNoMemory (answer_at three)) same is)))
     told_unbegun answer looks same (changed one two three start now line more answer_is roots ok good shown is) =
         with_roots source_last now one two (three ∷ []) (Ok start) roots (goes_self source_last) (call_goes now target_last (unchanged_call start) three.reply good.looked.called) ok
-          (with_third now target_last start one two three [] true (call_goes target now (calls.Snaps job.target_root) two.reply roots.second.looked.called) good.looked (goes_self target_last) good.ok
-            (subst (λ (ls : List Line). ByChange (ask_of job) page sides report start one two [] ls) (sym shown) (last (answers.TargetChanged line) (subst (OrNoMemory (answers.TargetChanged line)) same is))))
+        (with_third now target_last start one two three [] true (call_goes target now (calls.Snaps job.target_root) two.reply roots.second.looked.called) good.looked (goes_self target_last) good.ok
+        (subst (λ (ls : List Line). ByChange (ask_of job) page sides report start one two [] ls) (sym shown) (last (answers.TargetChanged line) (subst (OrNoMemory (answers.TargetChanged line)) same is))))

@@ -105,12 +105,12 @@ leaves_none old new call told called modifies stores = by (is_store_fault told.r
     by : (b : Bool) → is_store_fault told.reply ≡ b → leaves_entry call told.reply ≡ false
     by true fault =
         absurd (differs (sym (fits_at start new.seen told.position (entry_of old.caller new.calls call told.reply) called.lawful.proper
-          (called.legal.entered (ap (λ b. b || (is_modifying call && is_ok_reply told.reply)) fault)))
+        (called.legal.entered (ap (λ b. b || (is_modifying call && is_ok_reply told.reply)) fault)))
         ∙ (ap (λ b. fits_kind (cond b Faulted Accepted) call) fault ∙ stores)))
     by false none = ap (λ b. b || (is_modifying call && is_ok_reply told.reply)) none ∙ ap (λ b. b && is_ok_reply told.reply) modifies
 
 pub did_read : (side : Side) (old new : Known) (call : Call) (look : Look) → IsLooked side old new call look → is_modifying call ≡ false → uses_store call ≡ false → Did old new []
 did_read side old new call look looked modifies stores =
     subst (Did old new) {x = option_to_list (place_left (said_by new call look.reply))} {y = []}
-      (ap (λ b. option_to_list (cond b (Some look.reply.position) None)) (leaves_none old new call look.reply looked.called modifies stores))
-      (did_call old new call look.reply looked.called)
+    (ap (λ b. option_to_list (cond b (Some look.reply.position) None)) (leaves_none old new call look.reply looked.called modifies stores))
+    (did_call old new call look.reply looked.called)

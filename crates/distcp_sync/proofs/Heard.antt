@@ -87,6 +87,6 @@ heard sides side first old new last call look around before looked after =
       seq = new.calls;
       legal =
           subst (λ (tells : Bool). IsLegalCall tells at.limit at.journal look.caller new.calls call look.reply) (before.tells ∙ sym around.tells_is)
-            (subst (λ (limit : ℕ). IsLegalCall old.tells limit at.journal look.caller new.calls call look.reply) (before.limit ∙ sym around.limit_is)
-              (subst (λ (caller : CallerId). IsLegalCall old.tells old.limit at.journal caller new.calls call look.reply) (sym mine) legal));
+          (subst (λ (limit : ℕ). IsLegalCall old.tells limit at.journal look.caller new.calls call look.reply) (before.limit ∙ sym around.limit_is)
+          (subst (λ (caller : CallerId). IsLegalCall old.tells old.limit at.journal caller new.calls call look.reply) (sym mine) legal));
     }

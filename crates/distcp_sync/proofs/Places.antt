@@ -85,8 +85,8 @@ added c old rest position entry false own mine entered from reach = places_none 
 added c old rest position entry true own mine entered from reach =
     let at : length old + (position - length old) ≡ position = omega (arith, from) in
     last_place c (length old) (position - length old) rest entry entry own
-      (sym (behind_front old rest (position - length old)) ∙ (ap (slice_get (old ++ rest)) at ∙ entered refl))
-      (omega (arith, from, reach, length-append old rest)) (ap (λ n. n == c.0) mine ∙ same_number c.0)
+    (sym (behind_front old rest (position - length old)) ∙ (ap (slice_get (old ++ rest)) at ∙ entered refl))
+    (omega (arith, from, reach, length-append old rest)) (ap (λ n. n == c.0) mine ∙ same_number c.0)
     ∙ ap (λ k. k ∷ []) at
 
 -- a call adds the place of its entry
@@ -100,9 +100,9 @@ call_places old new call told called =
     append_cancel_left (filter (is_of c) old.seen) (filter (is_of c) rest) (option_to_list (entry_left c said)) (sym (filter-append (is_of c) old.seen rest) ∙ (ap (filter (is_of c)) grown ∙ called.own)) in
     let more : places_of c.0 (length old.seen) rest ≡ option_to_list (place_left said) =
     added c old.seen rest told.position (entry_of c new.calls call told.reply) (leaves_entry call told.reply) own refl
-      (λ left. ap (λ (l : List Entry). slice_get l told.position) grown ∙ called.legal.entered left) called.place (ap length grown ∙ called.reach) in
+    (λ left. ap (λ (l : List Entry). slice_get l told.position) grown ∙ called.legal.entered left) called.place (ap length grown ∙ called.reach) in
     ap (places_of c.0 0) (sym grown) ∙ (places-append c.0 0 old.seen rest ∙ ap (λ (ks : List ℕ). places_of c.0 0 old.seen ++ ks)
-      (ap (λ k. places_of c.0 k rest) {x = 0 + length old.seen} {y = length old.seen} (omega arith) ∙ more))
+    (ap (λ k. places_of c.0 k rest) {x = 0 + length old.seen} {y = length old.seen} (omega arith) ∙ more))
 
 -- ---- calls
 

@@ -34,7 +34,7 @@ unbegun_told job s s2 t t2 report ls lt begun moves copies =
       unmade_calls s s2 t t2 report did moves copies,
       λ sides around_source around_target.
           told_unbegun job job.page sides report s s2 t t2 around_source around_target moves copies (own_added sides.target_tells sides.target t t2 [] around_target did.at_target.goes did.at_target.places)
-            report.answer report.looks refl begun,
+          report.answer report.looks refl begun,
     )
 
 -- the calls of a sync that ends before it made a call of its plan
@@ -50,28 +50,28 @@ fetch_worked : (job : SyncJob) (sides : SyncSides) (report : SyncReport) (start 
     IsAround source source_then sides.source_tells sides.source → IsAround target target_then sides.target_tells sides.target → Goes source source_now → Goes target target_now →
     report.moves ≡ [] → report.copies ≡ [] → places_in sides.target ≡ [] → answer ≡ report.answer → KnowsTrees (ask_of job) job.page sides report start source_now one two →
     IsFetched start job.page source_now source_then target_now target_then later (Err answer) → HasWorked (ask_of job) job.page sides report start one two later
-fetch_worked job sides report start s sn s2 t tn t2 one two later answer as at gs gt moves copies none same knows (IsFetched.wanting rs rt) =
+fetch_worked job sides report start s sn s2 t tn t2 one two later answer around_s around_t gs gt moves copies none same knows (IsFetched.wanting rs rt) =
     by_want (ask_of job) job.page sides report start one two knows.trees moves copies none (sym same)
-fetch_worked job sides report start s sn s2 t tn t2 one two later answer as at gs gt moves copies none same knows (IsFetched.at_source call look now answer_is rs rt is bad told) =
+fetch_worked job sides report start s sn s2 t tn t2 one two later answer around_s around_t gs gt moves copies none same knows (IsFetched.at_source call look now answer_is rs rt is bad told) =
     by_look (ask_of job) job.page sides report start one two knows.trees sn Source call look moves copies none knows.listed is
-      (heard sides Source s now s2 s2 call look as (goes_then s sn now gs (made_goes sn now rs.calls rs.read.made)) bad.looked (goes_self s2)) bad.bad (subst (OrNoMemory (answer_at look)) same told)
-fetch_worked job sides report start s sn s2 t tn t2 one two later answer as at gs gt moves copies none same knows (IsFetched.at_target call look now answer_is rs rt is bad told) =
+    (heard sides Source s now s2 s2 call look around_s (goes_then s sn now gs (made_goes sn now rs.calls rs.read.made)) bad.looked (goes_self s2)) bad.bad (subst (OrNoMemory (answer_at look)) same told)
+fetch_worked job sides report start s sn s2 t tn t2 one two later answer around_s around_t gs gt moves copies none same knows (IsFetched.at_target call look now answer_is rs rt is bad told) =
     by_look (ask_of job) job.page sides report start one two knows.trees sn Target call look moves copies none knows.listed is
-      (heard sides Target t now t2 t2 call look at (goes_then t tn now gt (made_goes tn now rt.calls rt.read.made)) bad.looked (goes_self t2)) bad.bad (subst (OrNoMemory (answer_at look)) same told)
+    (heard sides Target t now t2 t2 call look around_t (goes_then t tn now gt (made_goes tn now rt.calls rt.read.made)) bad.looked (goes_self t2)) bad.bad (subst (OrNoMemory (answer_at look)) same told)
 
 unfetched_within : (job : SyncJob) (start : SyncStart) (source source_now source_then target target_now target_then : Known) (report : SyncReport) (looks later : List Look) → IsLawful source → IsLawful target →
     IsBegun job source source_now target target_now looks (Ok start) → IsFetched start job.page source_now source_then target_now target_then later (Err report.answer) → report.looks ≡ looks ++ later → report.moves ≡ [] → report.copies ≡ [] →
     IsSyncedWithin source source_then target target_then job report
 unfetched_within job start s sn s2 t tn t2 report looks later ls lt begun got all moves copies = λ sides around_s around_t.
     let first : DidBoth s sn t tn = did_begin job s sn t tn looks (Ok start) ls lt begun in
-    let then : DidBoth sn s2 tn t2 = did_fetch start job.page sn s2 tn t2 later (Err report.answer) first.at_source.lawful first.at_target.lawful got in
-    let whole : DidBoth s s2 t t2 = both_then s sn s2 t tn t2 first then in
+    let further : DidBoth sn s2 tn t2 = did_fetch start job.page sn s2 tn t2 later (Err report.answer) first.at_source.lawful first.at_target.lawful got in
+    let whole : DidBoth s s2 t t2 = both_then s sn s2 t tn t2 first further in
     subst (λ (ls : List Look). First (ask_of job) job.page sides report ls) (sym all)
-      (told_begin job job.page sides report s s2 t t2 around_s around_t sn tn looks later start begun then.at_source.goes then.at_target.goes
-        (λ now one two third roots is.
-            fetch_worked job sides report start s sn s2 t tn t2 one two later report.answer around_s around_t first.at_source.goes first.at_target.goes moves copies
-              (own_added sides.target_tells sides.target t t2 [] around_t whole.at_target.goes whole.at_target.places) refl
-              (trees_told job job.page sides report start s sn s2 t now t2 one two around_s around_t roots then.at_source.goes (goes_then now tn t2 third then.at_target.goes) is) got))
+    (told_begin job job.page sides report s s2 t t2 around_s around_t sn tn looks later start begun further.at_source.goes further.at_target.goes
+    (λ now one two third roots is.
+    fetch_worked job sides report start s sn s2 t tn t2 one two later report.answer around_s around_t first.at_source.goes first.at_target.goes moves copies
+    (own_added sides.target_tells sides.target t t2 [] around_t whole.at_target.goes whole.at_target.places) refl
+    (trees_told job job.page sides report start s sn s2 t now t2 one two around_s around_t roots further.at_source.goes (goes_then now tn t2 third further.at_target.goes) is) got))
 
 pub runs_are_told : RunsAreTold
 runs_are_told job s s2 t t2 report ls lt (unbegun begun moves copies) = unbegun_told job s s2 t t2 report ls lt begun moves copies
@@ -79,8 +79,11 @@ runs_are_told job s s2 t t2 report ls lt (unfetched start sn tn looks later begu
   unmade_calls s s2 t t2 report (fetched_calls job start s sn s2 t tn t2 looks later (Ok start) (Err report.answer) ls lt begun got) moves copies,
   unfetched_within job start s sn s2 t tn t2 report looks later ls lt begun got all moves copies,
 )
+-- open: HasWorked by told_begin and trees_told, none_made of Fetches, and EndsAlone.limit or wanting: the plan's bad paths by IsOfTheirPaths over IsOfMembers
 runs_are_told job s s2 t t2 report ls lt (unplanned start sn tn what fault begun got paths answer moves copies) = (
   unmade_calls s s2 t t2 report (fetched_calls job start s sn s2 t tn t2 report.looks [] (Ok start) (Ok what) ls lt begun got) moves copies,
   ?,
 )
+-- open: did_made and named_places give the calls of AreDone and StopsAt their places, CallsOfCopy those of the copies; then AreEntries, AreFirst of
+-- move_calls, the copies' calls (CopyOfFrozenIsFront) and last_call, and Ended
 runs_are_told job s s2 t t2 report ls lt (carried start sn sr tn tr what plan looks later begun got planned does all) = ?

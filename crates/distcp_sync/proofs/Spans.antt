@@ -40,11 +40,14 @@ by_cut low mid high index mine firsts seconds from to none = by (nat_lt index mi
   where
     differs : true ≡ false → ⊥
     differs e = cc
+
     pick : (b : Bool) → cond b (index ∷ (firsts ++ seconds)) (firsts ++ seconds) ≡ cond b (index ∷ firsts) firsts ++ seconds
     pick true = refl
     pick false = refl
+
     late : (b : Bool) → firsts ≡ [] → cond b (index ∷ (firsts ++ seconds)) (firsts ++ seconds) ≡ firsts ++ cond b (index ∷ seconds) seconds
     late b e = subst (λ (xs : List ℕ). cond b (index ∷ (xs ++ seconds)) (xs ++ seconds) ≡ xs ++ cond b (index ∷ seconds) seconds) (sym e) refl
+
     by : (b : Bool) → nat_lt index mid ≡ b → cond (taken low high index mine) (index ∷ (firsts ++ seconds)) (firsts ++ seconds) ≡ cond (taken low mid index mine) (index ∷ firsts) firsts ++ cond (taken mid high index mine) (index ∷ seconds) seconds
     by true below =
         ap (λ b. cond b (index ∷ (firsts ++ seconds)) (firsts ++ seconds)) {x = taken low high index mine} {y = taken low mid index mine} (grind (arith, nat_tests))
@@ -61,7 +64,7 @@ cut callers low mid high index [] from to = refl
 cut callers low mid high index (entry ∷ journal) from to =
     ap (λ (ks : List ℕ). cond (taken low high index (is_one_of callers entry.caller)) (index ∷ ks) ks) (cut callers low mid high (index + 1) journal from to)
     ∙ by_cut low mid high index (is_one_of callers entry.caller) (own_places callers low mid (index + 1) journal) (own_places callers mid high (index + 1) journal) from to
-      (λ past. none_past callers low mid (index + 1) journal (omega (arith, past)))
+    (λ past. none_past callers low mid (index + 1) journal (omega (arith, past)))
 
 -- what stands before a span has no place in it
 skipped : (callers : List CallerId) (low high index : ℕ) (front journal : List Entry) → index + length front ≤ low → own_places callers low high index (front ++ journal) ≡ own_places callers low high (index + length front) journal
@@ -78,7 +81,7 @@ filled : (c : CallerId) (low high index : ℕ) (part journal : List Entry) → l
 filled c low high index [] journal from to = none_past (c ∷ []) low high index journal (omega (arith, to))
 filled c low high index (entry ∷ part) journal from to =
     ap (λ b. cond b (index ∷ own_places (c ∷ []) low high (index + 1) (part ++ journal)) (own_places (c ∷ []) low high (index + 1) (part ++ journal)))
-      (inside low high index (is_one_of (c ∷ []) entry.caller) from (omega (arith, to)) ∙ mine_is c.0 entry.caller.0)
+    (inside low high index (is_one_of (c ∷ []) entry.caller) from (omega (arith, to)) ∙ mine_is c.0 entry.caller.0)
     ∙ ap (λ (ks : List ℕ). cond (entry.caller.0 == c.0) (index ∷ ks) ks) (filled c low high (index + 1) part journal (omega (arith, from)) (omega (arith, to)))
 
 -- the places of the callers in the span are those that the link's calls added
@@ -102,7 +105,7 @@ own_added tells side first last ks around goes added =
     ∙ (ap (λ k. own_places (c ∷ []) a b k (part ++ rest)) {x = 0 + a} {y = a} (omega arith) ∙ filled c a b a part rest (omega arith) long)) in
     let theirs : places_of c.0 a part ≡ ks =
     append_cancel_left (places_of c.0 0 first.seen) (places_of c.0 a part) ks
-      (ap (λ k. places_of c.0 0 first.seen ++ places_of c.0 k part) {x = a} {y = 0 + a} (omega arith) ∙ (sym (places-append c.0 0 first.seen part) ∙ (ap (places_of c.0 0) grown ∙ added))) in
+    (ap (λ k. places_of c.0 0 first.seen ++ places_of c.0 k part) {x = a} {y = 0 + a} (omega arith) ∙ (sym (places-append c.0 0 first.seen part) ∙ (ap (places_of c.0 0) grown ∙ added))) in
     cut side.callers low a high 0 side.journal around.from (omega (arith, front_length first.seen last.seen goes.grown, around.to))
     ∙ (ap (λ (ks : List ℕ). ks ++ own_places side.callers a high 0 side.journal) around.none_before
     ∙ (cut side.callers a b high 0 side.journal (front_length first.seen last.seen goes.grown) around.to
