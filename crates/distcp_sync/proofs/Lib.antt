@@ -6,4 +6,5 @@ mod Begun
 mod Unmade
 mod Fetches
 mod Trees
+mod Entered
 mod Runs

@@ -21,6 +21,7 @@ use Rattle.distcp_sync.specs.Around.{IsAround}
 use Rattle.distcp_sync.specs.inside.Trace.{AreRoots}
 use Rattle.distcp_sync.proofs.Heard.{Goes, goes_self, goes_then, made_goes, call_goes, heard}
 use Rattle.distcp_sync.proofs.Trees.{KnowsTrees, trees_told}
+use Rattle.distcp_sync.proofs.Entered.{made_entries}
 use Rattle.distcp_sync.proofs.Did.{Did}
 use Rattle.distcp_sync.proofs.Begun.{DidBoth, did_begin, told_begin, told_unbegun}
 use Rattle.distcp_sync.proofs.Fetches.{by_look, by_want}
