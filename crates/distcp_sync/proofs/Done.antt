@@ -27,8 +27,8 @@ less : (a b : ℕ) → a < b → nat_lt a b ≡ true
 less a b h = by (nat_lt a b) (λ t. t) (λ f. let le : b ≤ a = ltb-false a b f in absurd (omega arith))
   where
     by : {P : Type 0} (t : Bool) → (t ≡ true → P) → (t ≡ false → P) → P
-    by true yes none = yes refl
-    by false yes none = none refl
+    by true one other = one refl
+    by false one other = other refl
 
 -- ids that rise are begun with
 begun-so : (ask : SyncAsk) (start : SyncStart) (one two three : Option SnapId) → one ≡ Some start.from → two ≡ Some start.to → three ≡ Some start.base → start.from.0 < start.to.0 →
