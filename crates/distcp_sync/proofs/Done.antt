@@ -90,10 +90,10 @@ module _ (ask : SyncAsk) (page : ℕ) (sides : SyncSides) (report : SyncReport) 
   begins-so one two source target =
       ap (λ r. begun ask r two.reply.reply) source.reply_is ∙ ap (begun ask (replies.Snaps source.dir source.items)) target.reply_is
       ∙ begun-so ask (begins-at source.dir target.dir) _ _ _
-          (source.ids ask.from undisturbed.begins.from undisturbed.begins.has_from undisturbed.from_stays)
-          (source.ids ask.to undisturbed.begins.to undisturbed.begins.has_to undisturbed.to_stays)
-          (target.ids ask.from undisturbed.begins.base undisturbed.begins.has_base undisturbed.base_stays)
-          undisturbed.begins.rising
+      (source.ids ask.from undisturbed.begins.from undisturbed.begins.has_from undisturbed.from_stays)
+      (source.ids ask.to undisturbed.begins.to undisturbed.begins.has_to undisturbed.to_stays)
+      (target.ids ask.from undisturbed.begins.base undisturbed.begins.has_base undisturbed.base_stays)
+      undisturbed.begins.rising
 
   from-second : (one : Look) (looks : List Look) → TellsRoot sides.source ask.source_root one → Second ask page sides report one looks true → Kept
   from-second one [] source ends = wants answers.NoMemory refl ends.answer

@@ -9,17 +9,32 @@ pub enum SyncAnswer {
     /// All calls of the plan were accepted.
     Done,
     /// The first call at this side's root was refused.
-    NoRoot { side: Side, refusal: Refusal },
+    NoRoot {
+        side: Side,
+        refusal: Refusal,
+    },
     /// The first snapshot that isn't there, of the source's `from` and `to` and the target's `from`.
-    NoSnapshot { side: Side, name: NameText },
+    NoSnapshot {
+        side: Side,
+        name: NameText,
+    },
     /// The source's `to` wasn't made after its `from`.
-    NotOlder { from: SnapId, to: SnapId },
+    NotOlder {
+        from: SnapId,
+        to: SnapId,
+    },
     /// The target was changed since its `from`: the first line of its report.
-    TargetChanged { line: Line },
+    TargetChanged {
+        line: Line,
+    },
     /// A path of the plan's calls, the first in their order, passes a limit. No call of the plan was made.
-    PathLimit { path: PathText },
+    PathLimit {
+        path: PathText,
+    },
     /// A snapshot was taken away meanwhile.
-    Gone { side: Side },
+    Gone {
+        side: Side,
+    },
     /// A call was refused, at this place of its side's journal.
     Refused {
         call: Call,
@@ -27,9 +42,14 @@ pub enum SyncAnswer {
         position: u64,
     },
     /// The store of a side failed: the faulted entry stands at this place.
-    StoreFault { side: Side, position: u64 },
+    StoreFault {
+        side: Side,
+        position: u64,
+    },
     /// The journal of a side was full.
-    JournalFull { side: Side },
+    JournalFull {
+        side: Side,
+    },
     /// Memory ran out.
     NoMemory,
 }
