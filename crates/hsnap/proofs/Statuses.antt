@@ -9,6 +9,8 @@ use Rattle.run_output.specs.declared.ran.Status.{Status}
 use Rattle.run_output.specs.declared.ran.Status.TheVariants as status
 use Rattle.run_output.specs.Run.{IsRunInTurn}
 use Rattle.run_output.specs.Text.{text_of}
+use Rattle.hsnap.specs.declared.command_line.Words.{Words}
+use Rattle.hsnap.specs.CommandLine.{meaning_of_words}
 use Rattle.hsnap.specs.Serial.{most_bytes, IsScriptRead, IsCutShort, not_run}
 use Rattle.hsnap.specs.ReadStatus.{IsReadCause}
 
@@ -64,22 +66,22 @@ past_is_too_large before now rest why tells within past = by why within
     by status.NoMemory within = absurd (never (within (λ so. absurd (cc))))
 
 -- a run of the script that was read
-pub cut_short : (source_tells target_tells : Bool) (script : Script) (before now written_before written_now : Option (List ℕ)) (ran : Ran) → IsScriptRead before now script →
-    IsRunInTurn source_tells target_tells 1000 script.clients script.lines ran × TakesSome written_before written_now (text_of ran) →
-    IsCutShort source_tells target_tells before now written_before written_now ran
-cut_short source_tells target_tells script before now written_before written_now ran read is =
-    record { run = record { script = script; script_read = read; run = is.0 }; text = is.1 }
+pub cut_short : (words : List (List ℕ)) (said : Words) (source_tells target_tells : Bool) (script : Script) (before now written_before written_now : Option (List ℕ)) (ran : Ran) → meaning_of_words words ≡ Some said → IsScriptRead before now script →
+    IsRunInTurn source_tells target_tells said.page script.clients script.lines ran × TakesSome written_before written_now (text_of ran) →
+    IsCutShort words source_tells target_tells before now written_before written_now ran
+cut_short words said source_tells target_tells script before now written_before written_now ran means read is =
+    record { run = record { said = said; means = means; script = script; script_read = read; run = is.0 }; text = is.1 }
 
 -- with another status than want of memory it was run
-pub was_run : (source_tells target_tells : Bool) (script : Script) (before now written_before written_now : Option (List ℕ)) (ran : Ran) (Rest : Type 0) → IsScriptRead before now script →
-    (IsRunInTurn source_tells target_tells 1000 script.clients script.lines ran × TakesSome written_before written_now (text_of ran)) ⊎ ((ran ≡ not_run status.NoMemory) × Rest) →
-    (ran.status ≡ status.NoMemory → ⊥) → IsCutShort source_tells target_tells before now written_before written_now ran
-was_run source_tells target_tells script before now written_before written_now ran Rest read (inl is) other = cut_short source_tells target_tells script before now written_before written_now ran read is
-was_run source_tells target_tells script before now written_before written_now ran Rest read (inr none) other = absurd (other (ap (λ (r : Ran). r.status) none.0))
+pub was_run : (words : List (List ℕ)) (said : Words) (source_tells target_tells : Bool) (script : Script) (before now written_before written_now : Option (List ℕ)) (ran : Ran) (Rest : Type 0) → meaning_of_words words ≡ Some said → IsScriptRead before now script →
+    (IsRunInTurn source_tells target_tells said.page script.clients script.lines ran × TakesSome written_before written_now (text_of ran)) ⊎ ((ran ≡ not_run status.NoMemory) × Rest) →
+    (ran.status ≡ status.NoMemory → ⊥) → IsCutShort words source_tells target_tells before now written_before written_now ran
+was_run words said source_tells target_tells script before now written_before written_now ran Rest means read (inl is) other = cut_short words said source_tells target_tells script before now written_before written_now ran means read is
+was_run words said source_tells target_tells script before now written_before written_now ran Rest means read (inr none) other = absurd (other (ap (λ (r : Ran). r.status) none.0))
 
 -- and else maybe not
-pub run_or_none : (source_tells target_tells : Bool) (script : Script) (before now written_before written_now : Option (List ℕ)) (ran : Ran) (Rest : Type 0) → IsScriptRead before now script →
-    (IsRunInTurn source_tells target_tells 1000 script.clients script.lines ran × TakesSome written_before written_now (text_of ran)) ⊎ ((ran ≡ not_run status.NoMemory) × Rest) →
-    IsCutShort source_tells target_tells before now written_before written_now ran ⊎ ((ran ≡ not_run status.NoMemory) × Rest)
-run_or_none source_tells target_tells script before now written_before written_now ran Rest read (inl is) = inl (cut_short source_tells target_tells script before now written_before written_now ran read is)
-run_or_none source_tells target_tells script before now written_before written_now ran Rest read (inr none) = inr none
+pub run_or_none : (words : List (List ℕ)) (said : Words) (source_tells target_tells : Bool) (script : Script) (before now written_before written_now : Option (List ℕ)) (ran : Ran) (Rest : Type 0) → meaning_of_words words ≡ Some said → IsScriptRead before now script →
+    (IsRunInTurn source_tells target_tells said.page script.clients script.lines ran × TakesSome written_before written_now (text_of ran)) ⊎ ((ran ≡ not_run status.NoMemory) × Rest) →
+    IsCutShort words source_tells target_tells before now written_before written_now ran ⊎ ((ran ≡ not_run status.NoMemory) × Rest)
+run_or_none words said source_tells target_tells script before now written_before written_now ran Rest means read (inl is) = inl (cut_short words said source_tells target_tells script before now written_before written_now ran means read is)
+run_or_none words said source_tells target_tells script before now written_before written_now ran Rest means read (inr none) = inr none

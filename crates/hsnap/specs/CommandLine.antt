@@ -164,7 +164,6 @@ parts_of words = parts_from any_word words []
 abbrev pub mode_of : List ℕ → Option Mode
 mode_of word =
     if bytes_eq word (codes "serial") then Some modes.Serial
-    else if bytes_eq word (codes "gen") then Some modes.Generated
     else None
 
 -- the number that a right text spells, or another where none is given

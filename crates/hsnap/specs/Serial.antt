@@ -1,5 +1,5 @@
 -- What a call of the program promises.
-use Rattle.std.specs.Prelude.{◌≡◌, ℕ, ◌≤◌, Bool, true, false, bytes_eq, codes, List, [], ◌∷◌, length, Option, Ok, Err}
+use Rattle.std.specs.Prelude.{◌≡◌, ℕ, ◌≤◌, Bool, true, false, List, [], length, Option, Some, Ok, Err}
 use Rattle.hs_io.specs.Bytes.{Gives, IsEnded, TakesSome}
 use Rattle.script_text.specs.declared.script.Script.{Script}
 use Rattle.script_text.specs.declared.fault.FaultKind.{FaultKind}
@@ -10,12 +10,8 @@ use Rattle.run_output.specs.declared.ran.Status.{Status}
 use Rattle.run_output.specs.declared.ran.Status.TheVariants as status
 use Rattle.run_output.specs.Run.{IsRunInTurn}
 use Rattle.run_output.specs.Text.{text_of}
-
--- the command line is the one word `serial`
-abbrev pub is_serial : List (List ℕ) → Bool
-is_serial [] = false
-is_serial (word ∷ []) = bytes_eq word (codes "serial")
-is_serial (word ∷ next ∷ words) = false
+use Rattle.hsnap.specs.declared.command_line.Words.{Words}
+use Rattle.hsnap.specs.CommandLine.{meaning_of_words}
 
 -- the most bytes that an input has
 abbrev pub most_bytes : ℕ
@@ -33,15 +29,17 @@ pub record IsScriptRead (before now : Option (List ℕ)) (script : Script) : Typ
   pub read : WasRead before now bytes
   pub means : meaning_of bytes ≡ Ok script
 
--- the bytes read mean a script, and this is a run of it in turn; a listing has pages of 1,000 entries
-pub record IsRunOfInput (source_tells target_tells : Bool) (before now : Option (List ℕ)) (ran : Ran) : Type 0 where
+-- the words are a command line, the bytes read mean a script, and this is a run of it in turn, with pages as the words say
+pub record IsRunOfInput (words : List (List ℕ)) (source_tells target_tells : Bool) (before now : Option (List ℕ)) (ran : Ran) : Type 0 where
+  pub said : Words
+  pub means : meaning_of_words words ≡ Some said
   pub script : Script
   pub script_read : IsScriptRead before now script
-  pub run : IsRunInTurn source_tells target_tells 1000 script.clients script.lines ran
+  pub run : IsRunInTurn source_tells target_tells said.page script.clients script.lines ran
 
 -- it was run so, and of the text of the run a part from the front was written
-pub record IsCutShort (source_tells target_tells : Bool) (before now written_before written_now : Option (List ℕ)) (ran : Ran) : Type 0 where
-  pub run : IsRunOfInput source_tells target_tells before now ran
+pub record IsCutShort (words : List (List ℕ)) (source_tells target_tells : Bool) (before now written_before written_now : Option (List ℕ)) (ran : Ran) : Type 0 where
+  pub run : IsRunOfInput words source_tells target_tells before now ran
   pub text : TakesSome written_before written_now (text_of ran)
 
 -- the first bad line of the bytes read is this
@@ -66,6 +64,16 @@ is_early status.TooLarge = true
 is_early status.ReadFault = true
 is_early status.WriteFault = false
 is_early status.NoMemory = false
+
+-- the words are no command line, or memory ran out
+abbrev pub is_usage_or_no_memory : Status → Bool
+is_usage_or_no_memory status.Ok = false
+is_usage_or_no_memory status.Usage = true
+is_usage_or_no_memory (status.Script line kind) = false
+is_usage_or_no_memory status.TooLarge = false
+is_usage_or_no_memory status.ReadFault = false
+is_usage_or_no_memory status.WriteFault = false
+is_usage_or_no_memory status.NoMemory = true
 
 -- all was done, or memory ran out
 abbrev pub is_ok_or_no_memory : Status → Bool

@@ -17,8 +17,6 @@ use std::alloc::{AllocError, Global};
 pub enum Mode {
     /// Runs a script, one command after the other.
     Serial,
-    /// Runs a generated script.
-    Generated,
 }
 
 /// The meaning of a command line.
@@ -69,7 +67,6 @@ fn mode_named(word: &str) -> Option<Mode>
 {
     match word {
         "serial" => Some(Mode::Serial),
-        "gen" => Some(Mode::Generated),
         _ => None,
     }
 }

@@ -1,5 +1,5 @@
 //! The top call: from bytes to bytes, one call after the other.
-ghost use Rattle.std.specs.Prelude.{◌≡◌, ◌≤◌, ◌<◌, ◌↔◌, ◌⊎◌, true, false, List, [], ℕ, Option, Some, Ok, Err, is_some, length, IfOk, IfErr, IfSome, OnOk, OnErr};
+ghost use Rattle.std.specs.Prelude.{◌≡◌, ◌≤◌, ◌<◌, ◌⊎◌, true, false, List, [], ℕ, Option, Some, None, Ok, Err, is_some, length, IfOk, IfErr, IfSome, OnOk, OnErr};
 ghost use Rattle.std.specs.List.{list_all};
 ghost use Rattle.hs_io.specs.Bytes.{Takes, TakesSome, GivesWithin, GivesPast};
 ghost use Rattle.hs_types.specs.Faults.{Rose};
@@ -12,12 +12,14 @@ ghost use Rattle.script_text.specs.declared.script.Script.{Script};
 ghost use Rattle.run_output.specs.Run.{IsRunInTurn};
 ghost use Rattle.run_output.specs.Text.{text_of as plain_text_of};
 ghost use Rattle.script_text.specs.Order.{are_ordered};
-ghost use Rattle.hsnap.specs.ReadStatus.{IsReadCause};
-ghost use Rattle.hsnap.specs.Serial.{is_serial as is_plain_serial, most_bytes, IsScriptRead, IsRunOfInput, IsCutShort, IsBadScript, IsScriptOrNoMemory, is_too_large_or_no_memory, not_run, no_end as plain_no_end, is_early, is_ok_or_no_memory};
+ghost use Rattle.hsnap.specs.CommandLine.{meaning_of_words};
+ghost use Rattle.hsnap.specs.ReadStatus.{IsReadCause, IsWordsCause};
+ghost use Rattle.hsnap.specs.Serial.{is_usage_or_no_memory, most_bytes, IsScriptRead, IsRunOfInput, IsCutShort, IsBadScript, IsScriptOrNoMemory, is_too_large_or_no_memory, not_run, no_end as plain_no_end, is_early, is_ok_or_no_memory};
 
+use crate::command_line::{Words, WordsFault, read_words};
 use block_store::BlockStore;
 use hs_io::{InputErr, Sink, SinkErr, Source, read_all, write_all};
-use hs_types::{Counts, List, NameText, NoMemory, PageSize};
+use hs_types::{Counts, List, NameText, NoMemory};
 use run_output::{End, Ran, Status, text_of};
 use script_runner::{Options, serial_script};
 use script_text::{ReadScriptFault, Script, ScriptFault};
@@ -26,13 +28,15 @@ use std::alloc::Global;
 /// The most bytes that an input has.
 const MOST_BYTES: usize = 16_777_216;
 
-/// Whether the words are the command line.
-fn is_serial(words: &[NameText]) -> bool
-    ensures { result ≡ is_plain_serial words.now }
+/// What the words mean, or the status that they end with.
+fn words_or_status(alloc: Global, words: &List<NameText>) -> Result<Words, Status>
+    ensures ok { IfOk result (λ said. meaning_of_words words.now ≡ Some said) }
+    ensures cause { IfErr result (IsWordsCause words.now) }
 {
-    match words {
-        [word] => word.text() == "serial",
-        _ => false,
+    match read_words(alloc, words) {
+        Ok(said) => Ok(said),
+        Err(WordsFault::Usage) => Err(Status::Usage),
+        Err(WordsFault::NoMemory) => Err(Status::NoMemory),
     }
 }
 
@@ -109,6 +113,7 @@ fn write_text<O: Sink>(alloc: Global, ran: &Ran, output: &mut O) -> Status
 fn run_and_write<O: Sink, B: BlockStore>(
     alloc: Global,
     script: Script,
+    options: &Options,
     output: &mut O,
     source_blocks: B,
     target_blocks: B,
@@ -119,7 +124,7 @@ fn run_and_write<O: Sink, B: BlockStore>(
     requires source_empty { IfSome (B.blocks source_blocks) (λ map. map ≡ []) }
     requires target_empty { IfSome (B.blocks target_blocks) (λ map. map ≡ []) }
     ensures text { result.status ≡ Status.Ok → Takes (O.written output.old) (O.written output.new) (plain_text_of result) }
-    ensures run { (IsRunInTurn (is_some (B.blocks source_blocks)) (is_some (B.blocks target_blocks)) 1000 script.clients script.lines result × TakesSome (O.written output.old) (O.written output.new) (plain_text_of result))
+    ensures run { (IsRunInTurn (is_some (B.blocks source_blocks)) (is_some (B.blocks target_blocks)) options.now.page script.clients script.lines result × TakesSome (O.written output.old) (O.written output.new) (plain_text_of result))
         ⊎ ((result ≡ not_run Status.NoMemory) × (output.new ≡ output.old)) }
     ensures cause { result.status ≡ Status.WriteFault → Rose (O.faults output.old) (O.faults output.new) }
     ensures late { is_early result.status ≡ false }
@@ -127,11 +132,7 @@ fn run_and_write<O: Sink, B: BlockStore>(
     ensures source_faulted { (most : ℕ) → RisesAtMost most B.faults (B.faults source_blocks) → fault_count result.source ≤ most }
     ensures target_faulted { (most : ℕ) → RisesAtMost most B.faults (B.faults target_blocks) → fault_count result.target ≤ most }
 {
-    let options = Options {
-        page: PageSize::greatest(),
-        workers: 1,
-    };
-    match serial_script(alloc, script, &options, source_blocks, target_blocks) {
+    match serial_script(alloc, script, options, source_blocks, target_blocks) {
         Ok(mut ran) => {
             ran.status = write_text(alloc, &ran, output);
             ran
@@ -155,14 +156,15 @@ pub fn serial<I: Source, O: Sink, B: BlockStore>(
     requires source_empty { IfSome (B.blocks source_blocks) (λ map. map ≡ []) }
     requires target_empty { IfSome (B.blocks target_blocks) (λ map. map ≡ []) }
 
-    // With status Ok the bytes read, to the end of the input, mean a script; the answer is a run of it in turn;
-    // and what was written is the text of that run. Of a side whose store doesn't tell its blocks, the bytes that replies
+    // With status Ok the words are a command line; the bytes read, to the end of the input, mean a script; the answer is a
+    // run of it in turn; and what was written is the text of that run. Of a side whose store doesn't tell its blocks, the bytes that replies
     // hold are not claimed.
-    ensures ok { result.status ≡ Status.Ok → IsRunOfInput (is_some (B.blocks source_blocks)) (is_some (B.blocks target_blocks)) (I.rest input.old) (I.rest input.new) result }
+    ensures ok { result.status ≡ Status.Ok → IsRunOfInput words.now (is_some (B.blocks source_blocks)) (is_some (B.blocks target_blocks)) (I.rest input.old) (I.rest input.new) result }
     ensures text { result.status ≡ Status.Ok → Takes (O.written output.old) (O.written output.new) (plain_text_of result) }
 
     // The causes of the other statuses.
-    ensures usage { (result.status ≡ Status.Usage) ↔ (is_plain_serial words.now ≡ false) }
+    ensures usage { result.status ≡ Status.Usage → meaning_of_words words.now ≡ None }
+    ensures no_words { meaning_of_words words.now ≡ None → is_usage_or_no_memory result.status ≡ true }
     ensures script { (line : ℕ) (kind : FaultKind) → result.status ≡ Status.Script line kind → IsBadScript (I.rest input.old) (I.rest input.new) line kind }
     ensures read_fault { result.status ≡ Status.ReadFault → Rose (I.faults input.old) (I.faults input.new) }
     ensures write_fault { result.status ≡ Status.WriteFault → Rose (O.faults output.old) (O.faults output.new) }
@@ -176,9 +178,9 @@ pub fn serial<I: Source, O: Sink, B: BlockStore>(
     // After a fault of writing the answer is a run of the script, as with status Ok, and a part of its text from the front
     // was written. Want of memory is free: it ends a run so, or nothing was run, and nothing was written.
     ensures cut_short { result.status ≡ Status.WriteFault →
-        IsCutShort (is_some (B.blocks source_blocks)) (is_some (B.blocks target_blocks)) (I.rest input.old) (I.rest input.new) (O.written output.old) (O.written output.new) result }
+        IsCutShort words.now (is_some (B.blocks source_blocks)) (is_some (B.blocks target_blocks)) (I.rest input.old) (I.rest input.new) (O.written output.old) (O.written output.new) result }
     ensures no_memory { result.status ≡ Status.NoMemory →
-        IsCutShort (is_some (B.blocks source_blocks)) (is_some (B.blocks target_blocks)) (I.rest input.old) (I.rest input.new) (O.written output.old) (O.written output.new) result
+        IsCutShort words.now (is_some (B.blocks source_blocks)) (is_some (B.blocks target_blocks)) (I.rest input.old) (I.rest input.new) (O.written output.old) (O.written output.new) result
         ⊎ ((result ≡ not_run Status.NoMemory) × (output.new ≡ output.old)) }
 
     // With the early statuses nothing was written, and nothing was run.
@@ -186,18 +188,18 @@ pub fn serial<I: Source, O: Sink, B: BlockStore>(
     ensures unrun { is_early result.status ≡ true → result ≡ not_run result.status }
 
     // Where the words are right, and the input is a script within its limit, and neither end fails, all is done.
-    ensures complete { (rest : List ℕ) (script : Script) → is_plain_serial words.now ≡ true →
+    ensures complete { (rest : List ℕ) (script : Script) → is_some (meaning_of_words words.now) ≡ true →
         I.rest input.old ≡ Some rest → length rest ≤ most_bytes → meaning_of rest ≡ Ok script →
         (Rose (I.faults input.old) (I.faults input.new) → ⊥) → (Rose (O.faults output.old) (O.faults output.new) → ⊥) →
         is_ok_or_no_memory result.status ≡ true }
 
     // And a script whose first bad line is this is refused there.
-    ensures refused { (rest : List ℕ) (line : ℕ) (kind : FaultKind) → is_plain_serial words.now ≡ true →
+    ensures refused { (rest : List ℕ) (line : ℕ) (kind : FaultKind) → is_some (meaning_of_words words.now) ≡ true →
         I.rest input.old ≡ Some rest → length rest ≤ most_bytes → meaning_of rest ≡ Err (record { line = line; kind = kind }) →
         (Rose (I.faults input.old) (I.faults input.new) → ⊥) → IsScriptOrNoMemory line kind result.status }
 
     // An input of more bytes is too large.
-    ensures large { (rest : List ℕ) → is_plain_serial words.now ≡ true → I.rest input.old ≡ Some rest → most_bytes < length rest →
+    ensures large { (rest : List ℕ) → is_some (meaning_of_words words.now) ≡ true → I.rest input.old ≡ Some rest → most_bytes < length rest →
         (Rose (I.faults input.old) (I.faults input.new) → ⊥) → is_too_large_or_no_memory result.status ≡ true }
 
     // Over stores whose counts never rise the journals have no faulted entry; where they rise at most so often, there
@@ -210,11 +212,23 @@ pub fn serial<I: Source, O: Sink, B: BlockStore>(
     ensures reads { I.faults input.old ≤ I.faults input.new }
     ensures writes { O.faults output.old ≤ O.faults output.new }
 {
-    if !is_serial(words.items()) {
-        return unrun(alloc, Status::Usage);
-    }
+    let said = match words_or_status(alloc, words) {
+        Ok(said) => said,
+        Err(status) => return unrun(alloc, status),
+    };
+    let options = Options {
+        page: said.page,
+        workers: said.workers,
+    };
     match read_script(alloc, input) {
-        Ok(script) => run_and_write(alloc, script, output, source_blocks, target_blocks),
+        Ok(script) => run_and_write(
+            alloc,
+            script,
+            &options,
+            output,
+            source_blocks,
+            target_blocks,
+        ),
         Err(status) => unrun(alloc, status),
     }
 }

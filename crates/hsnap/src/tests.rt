@@ -47,14 +47,14 @@ fn reads_as(alloc: Global, line: &str, text: &str) -> Result<bool, NoMemory> {
 /// A line, and the mode, the page, the workers and the seed that its words say.
 const LINES: [(&str, &str); 36] = [
     ("serial", "Serial 1000 4 0"),
-    ("gen", "Generated 1000 4 0"),
+    ("gen", "Usage"),
     ("serial --page 2", "Serial 2 4 0"),
     ("--page 2 serial", "Serial 2 4 0"),
     (
         "--page=1000 serial --workers 8 --seed=4294967295",
         "Serial 1000 8 4294967295",
     ),
-    ("gen --seed 7 --workers=1 --page=1", "Generated 1 1 7"),
+    ("serial --seed 7 --workers=1 --page=1", "Serial 1 1 7"),
     ("serial --page=+5", "Serial 5 4 0"),
     ("serial --page +5", "Serial 5 4 0"),
     ("serial --page 0005", "Serial 5 4 0"),
@@ -71,7 +71,7 @@ const LINES: [(&str, &str); 36] = [
     ("serial gen", "Usage"),
     ("serial ", "Serial 1000 4 0"),
     ("serial  ", "Usage"),
-    ("gen --page 0", "Usage"),
+    ("serial --page 0", "Usage"),
     ("serial --page 1001", "Usage"),
     ("serial --workers 9", "Usage"),
     ("serial --seed 4294967296", "Usage"),

@@ -1,13 +1,12 @@
 use Rattle.std.specs.Prelude.{is_some}
-use Rattle.std.proofs.Common.{inl, inr, refl, subst}
+use Rattle.std.proofs.Common.{inl, inr, refl}
 use Rattle.run_output.specs.Run.{IsRunInTurn}
 use Rattle.hsnap.proofs.Statuses.{with_status}
 use Rattle.hsnap.proofs.serial.run_and_write.Goals as goal
 
 pub returns-in-Ok-clause-run : goal.returns-in-Ok-clause-run
 returns-in-Ok-clause-run g c = inl (
-  subst (λ n. IsRunInTurn (is_some (g.B.BlockStore.blocks c.args.source_blocks)) (is_some (g.B.BlockStore.blocks c.args.target_blocks)) n c.args.script.clients c.args.script.lines (record c.in-Ok.ran { status = c.write_text-ran.result })) c.greatest.ensures
-      (with_status (is_some (g.B.BlockStore.blocks c.args.source_blocks)) (is_some (g.B.BlockStore.blocks c.args.target_blocks)) c.greatest.result c.args.script.clients c.args.script.lines c.in-Ok.ran c.write_text-ran.result c.in-Ok.ensures.run),
+  with_status (is_some (g.B.BlockStore.blocks c.args.source_blocks)) (is_some (g.B.BlockStore.blocks c.args.target_blocks)) c.args.options.now.page c.args.script.clients c.args.script.lines c.in-Ok.ran c.write_text-ran.result c.in-Ok.ensures.run,
   c.write_text-ran.ensures.some,
 )
 
