@@ -1,2 +1,4 @@
+pub mod CommandLine
+pub mod inside
 pub mod ReadStatus
 pub mod Serial

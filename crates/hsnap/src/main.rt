@@ -1,6 +1,7 @@
 //! `hsnap`: HDFS snapshots and incremental DistCp, run from a script of client commands.
 #![tactic(auto)]
 
+pub mod command_line;
 pub mod serial;
 #[cfg(test)]
 mod tests;

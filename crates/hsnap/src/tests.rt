@@ -1,4 +1,6 @@
-//! What no case can show: ends that fail, and inputs at the limit, over ends and stores in memory.
+//! What no case can show: words that are no command line, ends that fail, and inputs at the limit, over ends and stores in
+//! memory.
+use crate::command_line::{Words, WordsFault, read_words};
 use crate::serial::serial;
 use block_store::SteadyBlocks;
 use hs_io::{MemSink, MemSource};
@@ -11,10 +13,87 @@ fn one(alloc: Global, number: u64) -> Result<List<u64>, NoMemory> {
     Ok(List::of(Vec::from_slice(alloc, &[number])?))
 }
 
-fn words_of(alloc: Global, word: &str) -> Result<List<NameText>, NoMemory> {
+/// The words of a line. A space ends a word.
+fn words_of(alloc: Global, line: &str) -> Result<List<NameText>, NoMemory> {
     let mut words = List::new(alloc);
-    words.push(NameText::new(String::from_str(alloc, word)?))?;
+    for word in line.split_terminator(' ') {
+        words.push(NameText::new(String::from_str(alloc, word)?))?;
+    }
     Ok(words)
+}
+
+fn write_words(out: &mut String, read: Result<Words, WordsFault>) -> Result<(), NoMemory> {
+    match read {
+        Ok(
+            Words {
+                mode,
+                page,
+                workers,
+                seed,
+            },
+        ) => Ok(write!(out, "{mode:?} {} {workers} {seed}", page.entries())?),
+        Err(fault) => Ok(write!(out, "{fault:?}")?),
+    }
+}
+
+/// Whether the words of a line are read as this.
+fn reads_as(alloc: Global, line: &str, text: &str) -> Result<bool, NoMemory> {
+    let mut out = String::new(alloc);
+    let words = words_of(alloc, line)?;
+    write_words(&mut out, read_words(alloc, &words))?;
+    Ok(out.as_str() == text)
+}
+
+/// A line, and the mode, the page, the workers and the seed that its words say.
+const LINES: [(&str, &str); 36] = [
+    ("serial", "Serial 1000 4 0"),
+    ("gen", "Generated 1000 4 0"),
+    ("serial --page 2", "Serial 2 4 0"),
+    ("--page 2 serial", "Serial 2 4 0"),
+    (
+        "--page=1000 serial --workers 8 --seed=4294967295",
+        "Serial 1000 8 4294967295",
+    ),
+    ("gen --seed 7 --workers=1 --page=1", "Generated 1 1 7"),
+    ("serial --page=+5", "Serial 5 4 0"),
+    ("serial --page +5", "Serial 5 4 0"),
+    ("serial --page 0005", "Serial 5 4 0"),
+    ("serial --seed=-0", "Serial 1000 4 0"),
+    ("serial --", "Serial 1000 4 0"),
+    ("-- serial", "Serial 1000 4 0"),
+    ("--page 3 -- serial", "Serial 3 4 0"),
+    ("", "Usage"),
+    (" ", "Usage"),
+    ("--", "Usage"),
+    ("-", "Usage"),
+    ("walk", "Usage"),
+    ("Serial", "Usage"),
+    ("serial gen", "Usage"),
+    ("serial ", "Serial 1000 4 0"),
+    ("serial  ", "Usage"),
+    ("gen --page 0", "Usage"),
+    ("serial --page 1001", "Usage"),
+    ("serial --workers 9", "Usage"),
+    ("serial --seed 4294967296", "Usage"),
+    ("serial --seed -0", "Usage"),
+    ("serial --page", "Usage"),
+    ("serial --page=", "Usage"),
+    ("serial --page 2 --page 3", "Usage"),
+    ("serial --page two", "Usage"),
+    ("serial --pag 2", "Usage"),
+    ("serial -p 2", "Usage"),
+    ("serial --help", "Usage"),
+    ("serial -- --", "Usage"),
+    ("-- serial --page 2", "Usage"),
+];
+
+#[test]
+fn words_are_read(rt: HostRuntime) -> Result<(), Fail> {
+    let alloc = rt.alloc();
+    for (line, text) in LINES {
+        assert!(rt; reads_as(alloc, line, text)?, "{line}");
+    }
+    Ok(())
 }
 
 /// A script, and behind it a comment of so many bytes.

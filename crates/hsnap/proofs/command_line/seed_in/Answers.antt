@@ -1,0 +1,12 @@
+use Rattle.std.proofs.Common.{◌∙◌, refl, arith}
+use Rattle.std.specs.Str.Parse.{ParsesUnsigned, ExplainsUnsignedError, HasUnsignedDigitsIfOk}
+use Rattle.clap.specs.Words.{found_of}
+use Rattle.hsnap.specs.CommandLine.{seed, text_of}
+use Rattle.hsnap.proofs.ClapValues.{number-or, number-read}
+use Rattle.hsnap.proofs.command_line.seed_in.Goals as goal
+
+pub returns : goal.returns
+returns c = λ given right is.
+    let read = number-read (λ bs r. ParsesUnsigned 32 10 bs r × ExplainsUnsignedError 10 bs r × HasUnsignedDigitsIfOk bs r) 32 0 4294967295 (found_of c.args.matches.now) seed given c.get_one.result
+    (λ text. refl, refl) right is c.get_one.ensures.none c.get_one.ensures.value (λ u x g. g.0) (omega arith) in
+    c.unwrap_or.ensures ∙ number-or (text_of seed given) 0 4294967295 0 c.get_one.result read

@@ -1,0 +1,2 @@
+-- Definitions that serve proofs.
+pub mod ClapRows
