@@ -1,0 +1,14 @@
+mod Heard
+mod Places
+mod Spans
+mod Did
+mod Begun
+mod Unmade
+mod Fetches
+mod Trees
+mod Entered
+mod Runs
+mod Queued
+pub mod Replied
+pub mod Started
+pub mod Done

@@ -1,0 +1,4 @@
+-- Definitions that serve proofs and private contracts alone.
+pub mod Trace
+pub mod Queue
+pub mod Runs
