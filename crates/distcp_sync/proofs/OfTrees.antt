@@ -16,7 +16,7 @@ use Rattle.hs_plain.specs.Plan.{root_names}
 use Rattle.hs_plain.specs.Reading.{is_deleted, is_foreign, has_moved}
 use Rattle.hs_plain.specs.Replay.{plain_after}
 use Rattle.hs_plain.specs.State.{is_snapshottable, member_with}
-use Rattle.hs_plain.specs.Premises.{SyncAsk}
+use Rattle.hs_plain.specs.Premises.{SyncAsk, now as now_id}
 use Rattle.hs_plain.specs.Valid.{IsValid}
 use Rattle.hs_plain.proofs.Paged.{observed, was_there}
 use Rattle.hs_plain.proofs.ReportEnds.{OwnEnd, own_end}
@@ -25,7 +25,7 @@ use Rattle.hs_plain.proofs.ValidShapes.{true_false}
 use Rattle.hs_plain.proofs.Validity.{valid-replay}
 use Rattle.distcp_plan.specs.Laws.{AreOfTrees}
 use Rattle.page_join.specs.Links.{Known}
-use Rattle.sync_laws.specs.Shown.{IsSnapshotOf}
+use Rattle.sync_laws.specs.Shown.{IsSnapshotOf, report_start}
 use Rattle.sync_laws.proofs.Shown.{report_by}
 use Rattle.copy_workers.specs.declared.copied.Look.{Look}
 use Rattle.distcp_sync.specs.declared.answer.SyncAnswer.{SyncAnswer}
@@ -66,7 +66,7 @@ begun_own job s sn t tn looks start (begins one two three start_is now roots is 
     let at_three : IsShown now.tells tn (unchanged_call start) three = shown Target now tn (unchanged_call start) three refl third in
     let state : State (List ℕ) = plain_after tn.seen in
     own_end state start.target start.base (valid-replay plain_files tn.seen) (not_zero (plain_after now.seen) (valid-replay plain_files now.seen) start.base base.member base.live)
-    (own_first state _ 1 (sym (observed is_ok_reply ok-blanked now.tells three.reply.reply (answer state (unchanged_call start)) at_three.same) ∙ third.ok))
+    (own_first state (report_start start.target start.base now_id) 1 (sym (observed is_ok_reply ok-blanked now.tells three.reply.reply (answer state (unchanged_call start)) at_three.same) ∙ third.ok))
 
 -- ---- what was fetched
 
