@@ -1,8 +1,6 @@
 -- What was fetched is of the trees that a sync works with: the target's snapshot is there still when the fetching begins.
-use Rattle.std.proofs.Common.{◌≡◌, ℕ, ◌+◌, ◌≤◌, Bool, true, false, ◌==◌, ◌||◌, Result, Ok, List, [], ◌++◌, length, take, refl, ap, sym, ◌∙◌, subst, arith}
+use Rattle.std.proofs.Common.{◌≡◌, ℕ, Bool, true, false, ◌||◌, Ok, List, [], length, take, refl, ap, sym, ◌∙◌}
 use Rattle.std.proofs.Math.Seq.{take-length}
-use Rattle.hs_types.specs.declared.ids.InodeId.{InodeId}
-use Rattle.hs_types.specs.declared.ids.SnapId.{SnapId}
 use Rattle.hs_types.specs.declared.ids.Side.TheVariants.{Target}
 use Rattle.hs_types.specs.declared.call.Call.TheVariants as calls
 use Rattle.hs_types.specs.declared.call.ReportCursor.{ReportCursor}
@@ -17,7 +15,6 @@ use Rattle.hs_plain.specs.Reading.{is_deleted, is_foreign, has_moved}
 use Rattle.hs_plain.specs.Replay.{plain_after}
 use Rattle.hs_plain.specs.State.{is_snapshottable, member_with}
 use Rattle.hs_plain.specs.Premises.{SyncAsk, now as now_id}
-use Rattle.hs_plain.specs.Valid.{IsValid}
 use Rattle.hs_plain.proofs.Paged.{observed, was_there}
 use Rattle.hs_plain.proofs.ReportEnds.{OwnEnd, own_end}
 use Rattle.hs_plain.proofs.ValidLists.{neither_first}
@@ -28,7 +25,6 @@ use Rattle.page_join.specs.Links.{Known}
 use Rattle.sync_laws.specs.Shown.{IsSnapshotOf, report_start}
 use Rattle.sync_laws.proofs.Shown.{report_by}
 use Rattle.copy_workers.specs.declared.copied.Look.{Look}
-use Rattle.distcp_sync.specs.declared.answer.SyncAnswer.{SyncAnswer}
 use Rattle.distcp_sync.specs.declared.fetching.Fetched.{Fetched}
 use Rattle.distcp_sync.specs.declared.report.SyncJob.{SyncJob}
 use Rattle.distcp_sync.specs.declared.report.SyncReport.{SyncReport}

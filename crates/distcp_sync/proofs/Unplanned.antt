@@ -1,5 +1,5 @@
 -- A sync of whose plan a path passes a limit, or for which there is no memory.
-use Rattle.std.proofs.Common.{◌≡◌, ℕ, Option, Some, List, [], ◌++◌, Ok, refl, sym, subst, append-nil}
+use Rattle.std.proofs.Common.{◌≡◌, ℕ, List, [], Ok, refl, sym, subst, append-nil}
 use Rattle.std.specs.Prelude.{slice_get}
 use Rattle.hs_types.specs.Names.{Names}
 use Rattle.hs_plain.specs.Plan.{plan_of, plan_calls, bad_paths}
