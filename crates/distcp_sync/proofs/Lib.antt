@@ -13,3 +13,7 @@ pub mod SpanCalls
 pub mod Replied
 pub mod Started
 pub mod Done
+mod EqualEnds
+mod EqualStart
+mod EqualMade
+mod EqualTrees

@@ -163,12 +163,16 @@ entries-at callers low high journal =
     ∙ (ap (λ n. filter (is_entry_of callers) (take ((high - 0) - (low - 0)) (drop n journal))) l
     ∙ window callers (slice_get journal) low high 0 journal (λ i. let same : 0 + i ≡ i = omega arith in ap (slice_get journal) same))
 
--- the calls of the callers' entries, from the beginning of the span up to an index behind the last of them, are those of the entries that are named
+-- the callers' entries, from the beginning of the span up to an index behind the last of them, are those that are named
+pub span-entries : (side : SyncSide) (end : ℕ) (made : List Made) (entries : List Entry) → places_in side ≡ map (λ (one : Made). one.position) made → AreEntries side.journal side.span.low made entries →
+    up_to_last made ≤ end → end ≤ side.span.high → filter (is_entry_of side.callers) (entries_up_to side end) ≡ entries
+span-entries side end made entries own are behind within =
+    let below : AreBelow end (places_in side) = subst (AreBelow end) (sym own) (below-more (up_to_last made) end (map (λ (one : Made). one.position) made) behind (all-below side.journal side.span.low made entries are)) in
+    entries-at side.callers side.span.low end side.journal
+    ∙ (ap (filter_map (slice_get side.journal)) (cut-at side.callers side.span.low end side.span.high 0 side.journal within below ∙ own)
+    ∙ named-entries side.journal side.span.low made entries are)
+
+-- and their calls are those of the entries that are named
 pub span-calls : (side : SyncSide) (end : ℕ) (made : List Made) (entries : List Entry) → places_in side ≡ map (λ (one : Made). one.position) made → AreEntries side.journal side.span.low made entries →
     up_to_last made ≤ end → end ≤ side.span.high → own_calls (is_entry_of side.callers) (entries_up_to side end) ≡ map (λ (entry : Entry). entry.call) entries
-span-calls side end made entries own are behind within =
-    let below : AreBelow end (places_in side) = subst (AreBelow end) (sym own) (below-more (up_to_last made) end (map (λ (one : Made). one.position) made) behind (all-below side.journal side.span.low made entries are)) in
-    ap (map (λ (entry : Entry). entry.call))
-    (entries-at side.callers side.span.low end side.journal
-    ∙ (ap (filter_map (slice_get side.journal)) (cut-at side.callers side.span.low end side.span.high 0 side.journal within below ∙ own)
-    ∙ named-entries side.journal side.span.low made entries are))
+span-calls side end made entries own are behind within = ap (map (λ (entry : Entry). entry.call)) (span-entries side end made entries own are behind within)
