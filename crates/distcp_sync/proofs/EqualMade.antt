@@ -13,6 +13,7 @@ use Rattle.hs_plain.specs.Change.{is_accepted}
 use Rattle.hs_plain.specs.Span.{Span, IsInSpan, is_one_of}
 use Rattle.hs_plain.specs.Premises.{SyncAsk, SyncSide, IsUndisturbed, MeetsNoFault, state_before}
 use Rattle.hs_plain.specs.Plan.{AreEqual, plan_calls, bad_paths}
+use Rattle.hs_plain.proofs.ValidShapes.{none_some, same_some, true_false}
 use Rattle.hs_plain.proofs.PlanCalls.{in_turn_are_merged}
 use Rattle.plan_laws.specs.Steps.{own_calls}
 use Rattle.plan_laws.specs.Undisturbed.{AreWithinLimit, IsUnderWay, entries_between, entries_up_to, is_entry_of, plan_begun}
@@ -31,22 +32,17 @@ all-accepted planned (entry ∷ entries) rest first = (ap is_accepted first.3, a
 -- what holds of those that pass a test
 kept-have : (own : Entry → Bool) (P : Entry → Type 0) (entries : List Entry) → AllByRecursion P (filter own entries) → AllByRecursion (λ entry. own entry ≡ true → P entry) entries
 kept-have own P [] all = tt
-kept-have own P (entry ∷ entries) all = by (own entry) refl all
+kept-have own P (entry ∷ entries) all = by (own entry) refl (kept-have own P entries) all
   where
-    differs : true ≡ false → ⊥
-    differs e = cc
-
-    by : (b : Bool) → own entry ≡ b → AllByRecursion P (cond b (entry ∷ filter own entries) (filter own entries)) → AllByRecursion (λ entry. own entry ≡ true → P entry) (entry ∷ entries)
-    by true is all = (λ _. all.0, kept-have own P entries all.1)
-    by false is all = (λ own. absurd (differs (sym own ∙ is)), kept-have own P entries all)
+    by : (b : Bool) → own entry ≡ b → (AllByRecursion P (filter own entries) → AllByRecursion (λ entry. own entry ≡ true → P entry) entries) →
+        AllByRecursion P (cond b (entry ∷ filter own entries) (filter own entries)) → AllByRecursion (λ entry. own entry ≡ true → P entry) (entry ∷ entries)
+    by true is more all = (λ _. all.0, more all.1)
+    by false is more all = (λ own. absurd (true_false own is), more all)
 
 -- what holds of each holds of the one at an index
 at-index : (P : Entry → Type 0) (entries : List Entry) (index : ℕ) (entry : Entry) → AllByRecursion P entries → slice_get entries index ≡ Some entry → P entry
-at-index P [] index entry all there = absurd (cc)
-at-index P (one ∷ entries) zero entry all there = subst P (same one entry there) all.0
-  where
-    same : (one entry : Entry) → Some one ≡ Some entry → one ≡ entry
-    same one entry e = cc
+at-index P [] index entry all there = absurd (none_some there)
+at-index P (one ∷ entries) zero entry all there = subst P (same_some there) all.0
 at-index P (one ∷ entries) (suc index) entry all there = at-index P entries index entry all.1 there
 
 get-front : (n i : ℕ) (entries : List Entry) → i < n → slice_get (take n entries) i ≡ slice_get entries i
@@ -81,10 +77,7 @@ places-below callers low high index (entry ∷ journal) = by (nat_le low index &
   where
     by : (b : Bool) → (nat_le low index && (nat_lt index high && is_one_of callers entry.caller)) ≡ b → AreBelow high (own_places callers low high (index + 1) journal) →
         AreBelow high (cond b (index ∷ own_places callers low high (index + 1) journal) (own_places callers low high (index + 1) journal))
-    by true is more = (below low index high (is_one_of callers entry.caller) is, more)
-      where
-        below : (low index high : ℕ) (mine : Bool) → (nat_le low index && (nat_lt index high && mine)) ≡ true → index < high
-        below low index high mine is = grind (arith, nat_tests)
+    by true is more = (let under : index < high = grind (arith, nat_tests, is) in under, more)
     by false is more = more
 
 end-within : (high : ℕ) (made : List Made) → AreBelow high (map (λ (one : Made). one.position) made) → up_to_last made ≤ high
