@@ -1,5 +1,5 @@
 -- A sync that made all calls of its plan: just behind the last of them, the trees are equal.
-use Rattle.std.proofs.Common.{◌≡◌, ℕ, zero, suc, ◌+◌, ◌-◌, ◌<◌, ◌≤◌, nat_le, nat_lt, Bool, true, false, cond, ◌&&◌, Some, Ok, List, [], ◌∷◌, ◌++◌, map, take, drop, slice_get, refl, ap, sym, subst, ◌∙◌, append-nil, arith}
+use Rattle.std.proofs.Common.{◌≡◌, ℕ, zero, suc, ◌+◌, ◌-◌, ◌<◌, ◌≤◌, nat_le, nat_lt, Bool, true, false, cond, ◌&&◌, Some, Ok, List, [], ◌∷◌, ◌++◌, map, take, drop, slice_get, refl, ap, sym, subst, ◌∙◌, arith}
 use Rattle.std.specs.List.{filter, AllByRecursion}
 use Rattle.std.proofs.lemmas.Bool.Decides.{nat_tests}
 use Rattle.hs_types.specs.Names.{Names}
@@ -10,17 +10,16 @@ use Rattle.hs_plain.specs.Tree.{subtree}
 use Rattle.hs_plain.specs.Modifying.{live_path}
 use Rattle.hs_plain.specs.Replay.{plain_after}
 use Rattle.hs_plain.specs.Change.{is_accepted}
-use Rattle.hs_plain.specs.Span.{Span, IsInSpan, is_one_of}
+use Rattle.hs_plain.specs.Span.{is_one_of}
 use Rattle.hs_plain.specs.Premises.{SyncAsk, SyncSide, IsUndisturbed, MeetsNoFault, state_before}
 use Rattle.hs_plain.specs.Plan.{AreEqual, plan_calls, bad_paths}
 use Rattle.hs_plain.proofs.ValidShapes.{none_some, same_some, true_false}
 use Rattle.hs_plain.proofs.PlanCalls.{in_turn_are_merged}
-use Rattle.plan_laws.specs.Steps.{own_calls}
 use Rattle.plan_laws.specs.Undisturbed.{AreWithinLimit, IsUnderWay, entries_between, entries_up_to, is_entry_of, plan_begun}
 use Rattle.plan_laws.proofs.UnderWay.{way-equal}
 use Rattle.copy_workers.specs.declared.copied.Made.{Made}
 use Rattle.distcp_sync.specs.Steps.{AreEntries, AreFirst, own_places, places_in, up_to_last}
-use Rattle.distcp_sync.proofs.SpanCalls.{AreBelow, all-below, first-calls, span-entries, span-calls}
+use Rattle.distcp_sync.proofs.SpanCalls.{AreBelow, all-below, first-calls, span-entries}
 
 -- ---- accepted entries
 

@@ -1,12 +1,11 @@
 -- What Ok replies about the roots tell of an undisturbed sync: the snapshots of the premises.
-use Rattle.std.proofs.Common.{◌≡◌, ℕ, ◌+◌, ◌<◌, ◌≤◌, nat_lt, cond, Bool, true, false, Option, Some, Result, Ok, Err, List, [], ◌∷◌, take, refl, ap, sym, ◌∙◌, arith}
+use Rattle.std.proofs.Common.{◌≡◌, ℕ, ◌+◌, ◌<◌, ◌≤◌, nat_lt, cond, Bool, true, false, Option, Some, Result, Ok, Err, List, refl, ap, sym, ◌∙◌, arith}
 use Rattle.std.proofs.lemmas.Bool.Decides.{nat_tests}
 use Rattle.std.specs.Prelude.{◌||◌, ◌&&◌}
 use Rattle.hs_types.specs.declared.ids.Side.{Side}
 use Rattle.hs_types.specs.declared.ids.InodeId.{InodeId}
 use Rattle.hs_types.specs.declared.ids.SnapId.{SnapId}
 use Rattle.hs_types.specs.declared.name.SnapItem.{SnapItem}
-use Rattle.hs_types.specs.declared.call.Call.{Call}
 use Rattle.hs_types.specs.declared.call.Call.TheVariants as calls
 use Rattle.hs_types.specs.declared.reply.Reply.{Reply}
 use Rattle.hs_types.specs.declared.reply.Reply.TheVariants as replies
@@ -17,7 +16,7 @@ use Rattle.hs_plain.specs.Answer.{answer, is_ok_reply, is_plain_reply, is_store_
 use Rattle.hs_plain.specs.Legal.{reach_of}
 use Rattle.hs_plain.specs.Reading.{snapshottable_at}
 use Rattle.hs_plain.specs.Span.{Stays}
-use Rattle.hs_plain.specs.Premises.{SyncSide, member_at, state_before}
+use Rattle.hs_plain.specs.Premises.{SyncAsk, SyncSide, member_at, state_before}
 use Rattle.hs_plain.proofs.ValidAsked.{ok_then, same_ok}
 use Rattle.sync_laws.specs.Lasting.{IsWithin}
 use Rattle.sync_laws.specs.Shown.{ShowsSnaps}
@@ -25,9 +24,21 @@ use Rattle.sync_laws.proofs.Snapshots.{named-so, with-from, valid-at}
 use Rattle.sync_laws.proofs.RootsStay.{member-lasts}
 use Rattle.sync_laws.proofs.Shown.{snaps-shown, snaps-ok}
 use Rattle.copy_workers.specs.declared.copied.Look.{Look}
-use Rattle.distcp_sync.specs.Told.{id_named}
+use Rattle.distcp_sync.specs.declared.answer.SyncAnswer.{SyncAnswer}
+use Rattle.distcp_sync.specs.declared.answer.SyncAnswer.TheVariants as answers
+use Rattle.distcp_sync.specs.declared.start.SyncStart.{SyncStart}
+use Rattle.distcp_sync.specs.Told.{id_named, start_by}
 use Rattle.distcp_sync.specs.Steps.{SyncSides, side_at, tells_at, state_at, IsHeard}
 use Rattle.distcp_sync.proofs.Started.{same-id}
+
+-- ids that rise are begun with
+pub rising-begun : (ask : SyncAsk) (start : SyncStart) (one two three : Option SnapId) → one ≡ Some start.from → two ≡ Some start.to → three ≡ Some start.base → start.from.0 < start.to.0 →
+    start_by ask start.source start.target one two three ≡ Ok start
+rising-begun ask start one two three a b c rising =
+    let less : nat_lt start.from.0 start.to.0 ≡ true = grind (arith, nat_tests) in
+    ap (λ o. start_by ask start.source start.target o two three) a ∙ ap (λ o. start_by ask start.source start.target (Some start.from) o three) b
+    ∙ ap (λ o. start_by ask start.source start.target (Some start.from) (Some start.to) o) c
+    ∙ ap (λ t. cond {A = Result SyncStart SyncAnswer} t (Ok start) (Err (answers.NotOlder start.from start.to))) less
 
 -- an Ok reply is the plain machine's
 ok-plain : (reply : Reply) → is_ok_reply reply ≡ true → is_plain_reply reply ≡ true

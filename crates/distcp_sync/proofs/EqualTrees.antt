@@ -1,24 +1,19 @@
 -- An undisturbed sync that is done made all calls of its plan, so it leaves the target equal to the source's `to`.
-use Rattle.std.proofs.Common.{◌≡◌, ◌⊎◌, inl, inr, ℕ, ◌+◌, ◌<◌, nat_lt, cond, Bool, true, false, Option, Some, None, Result, Ok, Err, List, [], ◌∷◌, ◌++◌, map, take, refl, ap, sym, subst, ◌∙◌, append_assoc, append-nil, arith}
+use Rattle.std.proofs.Common.{◌≡◌, inl, ℕ, ◌+◌, Bool, true, false, Option, Some, None, Ok, List, [], ◌∷◌, ◌++◌, take, refl, ap, sym, subst, ◌∙◌, append_assoc, append-nil}
 use Rattle.std.specs.List.{flat_map}
-use Rattle.std.proofs.lemmas.Bool.Decides.{nat_tests}
 use Rattle.hs_types.specs.Names.{Names}
 use Rattle.hs_types.specs.declared.ids.Side.TheVariants.{Source, Target}
 use Rattle.hs_types.specs.declared.ids.InodeId.{InodeId}
-use Rattle.hs_types.specs.declared.ids.SnapId.{SnapId}
 use Rattle.hs_types.specs.declared.call.Call.{Call}
 use Rattle.hs_types.specs.declared.journal.Entry.{Entry}
-use Rattle.hs_types.specs.declared.reply.Reply.{Reply}
 use Rattle.hs_types.specs.declared.reply.Reply.TheVariants as replies
 use Rattle.hs_types.specs.declared.reply.Line.{Line}
-use Rattle.hs_plain.specs.declared.state.Member.{Member}
 use Rattle.hs_plain.specs.Tree.{subtree}
 use Rattle.hs_plain.specs.Modifying.{live_path}
 use Rattle.hs_plain.specs.Replay.{plain_after}
 use Rattle.hs_plain.specs.Answer.{is_ok_reply}
 use Rattle.hs_plain.specs.Joined.{lines_shown}
-use Rattle.hs_plain.specs.State.{member_with}
-use Rattle.hs_plain.specs.Premises.{SyncAsk, SyncSide, IsUndisturbed, state_before}
+use Rattle.hs_plain.specs.Premises.{SyncAsk, IsUndisturbed, state_before}
 use Rattle.hs_plain.specs.Plan.{AreEqual, plan_calls, bad_paths}
 use Rattle.hs_plain.proofs.ValidAsked.{same_ok}
 use Rattle.plan_laws.specs.Undisturbed.{AreWithinLimit, plan_begun}
@@ -28,21 +23,12 @@ use Rattle.distcp_sync.specs.declared.answer.SyncAnswer.{SyncAnswer}
 use Rattle.distcp_sync.specs.declared.answer.SyncAnswer.TheVariants as answers
 use Rattle.distcp_sync.specs.declared.report.SyncReport.{SyncReport}
 use Rattle.distcp_sync.specs.declared.start.SyncStart.{SyncStart}
-use Rattle.distcp_sync.specs.Told.{begun, start_by, root_answer, answer_at, OrNoMemory}
-use Rattle.distcp_sync.specs.Steps.{SyncSides, state_at, IsHeard, AreEntries, AreFirst, AreAllMade, ended_copy, plan_between, up_to_last}
-use Rattle.distcp_sync.specs.Synced.{First, Second, Third, AfterSecond, AfterThird, ByChange, HasTrees, HasMade, HasWorked, Ended, EndsAlone, planned}
+use Rattle.distcp_sync.specs.Told.{begun, root_answer, answer_at, OrNoMemory}
+use Rattle.distcp_sync.specs.Steps.{SyncSides, AreEntries, AreFirst, ended_copy, plan_between, up_to_last}
+use Rattle.distcp_sync.specs.Synced.{First, Second, Third, AfterSecond, AfterThird, ByChange, HasTrees, HasMade, Ended, EndsAlone, planned}
 use Rattle.distcp_sync.proofs.EqualEnds.{is_done, not-done, look-other, root-other}
-use Rattle.distcp_sync.proofs.EqualStart.{IsRootReply, root-replied}
+use Rattle.distcp_sync.proofs.EqualStart.{rising-begun, IsRootReply, root-replied}
 use Rattle.distcp_sync.proofs.EqualMade.{all-equal}
-
--- ids that rise are begun with
-rising-begun : (ask : SyncAsk) (start : SyncStart) (one two three : Option SnapId) → one ≡ Some start.from → two ≡ Some start.to → three ≡ Some start.base → start.from.0 < start.to.0 →
-    start_by ask start.source start.target one two three ≡ Ok start
-rising-begun ask start one two three a b c rising =
-    let less : nat_lt start.from.0 start.to.0 ≡ true = grind (arith, nat_tests) in
-    ap (λ o. start_by ask start.source start.target o two three) a ∙ ap (λ o. start_by ask start.source start.target (Some start.from) o three) b
-    ∙ ap (λ o. start_by ask start.source start.target (Some start.from) (Some start.to) o) c
-    ∙ ap (λ t. cond {A = Result SyncStart SyncAnswer} t (Ok start) (Err (answers.NotOlder start.from start.to))) less
 
 -- the end of the last one
 last-ends : (made : List Made) (last : Made) → up_to_last (made ++ last ∷ []) ≡ last.position + 1
