@@ -9,6 +9,7 @@ mod Trees
 mod Entered
 mod Runs
 mod Queued
+pub mod SpanCalls
 pub mod Replied
 pub mod Started
 pub mod Done
