@@ -76,26 +76,24 @@ below-more low high (place ∷ places) within all = (omega (arith, within, all.0
 abbrev taken : ℕ → ℕ → ℕ → Bool → Bool
 taken low high index mine = nat_le low index && (nat_lt index high && mine)
 
+-- one index more, where no place is at an end or behind it
+cut_step : (low end high index : ℕ) (mine : Bool) (ends wholes : List ℕ) → end ≤ high → (AreBelow end wholes → ends ≡ wholes) → (b : Bool) → taken low high index mine ≡ b → AreBelow end (cond b (index ∷ wholes) wholes) →
+    cond (taken low end index mine) (index ∷ ends) ends ≡ cond b (index ∷ wholes) wholes
+cut_step low end high index mine ends wholes within next true is below =
+    let here : index < end = below.0 in
+    let too : taken low end index mine ≡ true = grind (arith, nat_tests, is, here) in
+    ap (λ b. cond b (index ∷ ends) ends) too ∙ ap (λ (ks : List ℕ). index ∷ ks) (next below.1)
+cut_step low end high index mine ends wholes within next false is below =
+    let too : taken low end index mine ≡ false = grind (arith, nat_tests, is, within) in
+    ap (λ b. cond b (index ∷ ends) ends) too ∙ next below
+
 -- where no place is at an end or behind it, up to there are all
 cut-at : (callers : List CallerId) (low end high index : ℕ) (journal : List Entry) → end ≤ high → AreBelow end (own_places callers low high index journal) →
     own_places callers low end index journal ≡ own_places callers low high index journal
 cut-at callers low end high index [] within below = refl
-cut-at callers low end high index (entry ∷ journal) within below = by (taken low high index (is_one_of callers entry.caller)) refl below
-  where
-    by : (b : Bool) → taken low high index (is_one_of callers entry.caller) ≡ b →
-        AreBelow end (cond b (index ∷ own_places callers low high (index + 1) journal) (own_places callers low high (index + 1) journal)) →
-        own_places callers low end index (entry ∷ journal) ≡ own_places callers low high index (entry ∷ journal)
-    by true is below =
-        let here : index < end = below.0 in
-        let too : taken low end index (is_one_of callers entry.caller) ≡ true = grind (arith, nat_tests, is, here) in
-        ap (λ b. cond b (index ∷ own_places callers low end (index + 1) journal) (own_places callers low end (index + 1) journal)) too
-        ∙ (ap (λ (ks : List ℕ). index ∷ ks) (cut-at callers low end high (index + 1) journal within below.1)
-        ∙ ap (λ b. cond b (index ∷ own_places callers low high (index + 1) journal) (own_places callers low high (index + 1) journal)) (sym is))
-    by false is below =
-        let too : taken low end index (is_one_of callers entry.caller) ≡ false = grind (arith, nat_tests, is, within) in
-        ap (λ b. cond b (index ∷ own_places callers low end (index + 1) journal) (own_places callers low end (index + 1) journal)) too
-        ∙ (cut-at callers low end high (index + 1) journal within below
-        ∙ ap (λ b. cond b (index ∷ own_places callers low high (index + 1) journal) (own_places callers low high (index + 1) journal)) (sym is))
+cut-at callers low end high index (entry ∷ journal) within below =
+    cut_step low end high index (is_one_of callers entry.caller) (own_places callers low end (index + 1) journal) (own_places callers low high (index + 1) journal) within
+    (cut-at callers low end high (index + 1) journal within) (taken low high index (is_one_of callers entry.caller)) refl below
 
 -- the entries of callers from an index up to another are those at their places
 module _ (callers : List CallerId) (f : ℕ → Option Entry) (low high : ℕ) where
@@ -109,19 +107,13 @@ module _ (callers : List CallerId) (f : ℕ → Option Entry) (low high : ℕ) w
 
   window : (index : ℕ) (journal : List Entry) → ((i : ℕ) → f (index + i) ≡ slice_get journal i) → Window index journal
   window index [] at = none-left ((high - index) - (low - index)) (low - index)
-  window index (entry ∷ journal) at = by (nat_le low index) refl (nat_lt index high) refl
+  window index (entry ∷ journal) at = by (window (index + 1) journal later) (nat_le low index) refl (nat_lt index high) refl
     where
       later : (i : ℕ) → f (index + 1 + i) ≡ slice_get journal i
       later i = let same : index + 1 + i ≡ index + suc i = omega arith in ap f same ∙ at (suc i)
 
-      more : Window (index + 1) journal
-      more = window (index + 1) journal later
-
       here : f index ≡ Some entry
       here = let same : index ≡ index + 0 = omega arith in ap f same ∙ at 0
-
-      whole : List Entry
-      whole = entry ∷ journal
 
       -- one entry that is in the part
       one : (b : Bool) → is_entry_of callers entry ≡ b → (rest : List Entry) (places : List ℕ) → filter (is_entry_of callers) rest ≡ filter_map f places →
@@ -129,8 +121,8 @@ module _ (callers : List CallerId) (f : ℕ → Option Entry) (low high : ℕ) w
       one true is rest places same = ap (λ (es : List Entry). entry ∷ es) same ∙ ap (λ (o : Option Entry). cons_option o (filter_map f places)) (sym here)
       one false is rest places same = same
 
-      by : (a : Bool) → nat_le low index ≡ a → (b : Bool) → nat_lt index high ≡ b → Window index (entry ∷ journal)
-      by false before b is =
+      by : Window (index + 1) journal → (a : Bool) → nat_le low index ≡ a → (b : Bool) → nat_lt index high ≡ b → Window index (entry ∷ journal)
+      by more false before b is =
           let above : index < low = grind (arith, nat_tests) in
           let dropped : low - index ≡ suc (low - (index + 1)) = omega (arith, above) in
           let same : (high - index) - (low - index) ≡ (high - (index + 1)) - (low - (index + 1)) = omega (arith, above) in
@@ -138,7 +130,7 @@ module _ (callers : List CallerId) (f : ℕ → Option Entry) (low high : ℕ) w
           ap (λ n. filter (is_entry_of callers) (take n (drop (low - index) (entry ∷ journal)))) same
           ∙ (ap (λ n. filter (is_entry_of callers) (take ((high - (index + 1)) - (low - (index + 1))) (drop n (entry ∷ journal)))) dropped
           ∙ (more ∙ ap (λ b. filter_map f (cond b (index ∷ own_places callers low high (index + 1) journal) (own_places callers low high (index + 1) journal))) (sym none)))
-      by true from false past =
+      by more true from false past =
           let end : high ≤ index = grind (arith, nat_tests) in
           let nothing : (high - index) - (low - index) ≡ 0 = omega (arith, end) in
           let none : taken low high index (is_one_of callers entry.caller) ≡ false = grind (arith, nat_tests) in
@@ -146,7 +138,7 @@ module _ (callers : List CallerId) (f : ℕ → Option Entry) (low high : ℕ) w
           ap (λ n. filter (is_entry_of callers) (take n (drop (low - index) (entry ∷ journal)))) nothing
           ∙ (ap (λ n. filter (is_entry_of callers) (take n (drop (low - (index + 1)) journal))) (sym nor)
           ∙ (more ∙ ap (λ b. filter_map f (cond b (index ∷ own_places callers low high (index + 1) journal) (own_places callers low high (index + 1) journal))) (sym none)))
-      by true from true below =
+      by more true from true below =
           let under : index < high = grind (arith, nat_tests) in
           let least : low ≤ index = grind (arith, nat_tests) in
           let dropped : low - index ≡ 0 = omega (arith, least) in
