@@ -23,16 +23,19 @@ pub not-done : (expected answer : SyncAnswer) → is_done expected ≡ false →
 not-done expected answer other (inl so) done = true_false (ap is_done done) (ap is_done so ∙ other)
 not-done expected answer other (inr so) done = true_false (ap is_done done) (ap is_done so)
 
+-- a call that is handed back doesn't make a sync done
 refused-other : (back : Option Call) (why : Refusal) (position : ℕ) → is_done (refused_answer back why position) ≡ false
 refused-other None why position = refl
 refused-other (Some call) why position = refl
 
+-- nor does a refusal
 refusal-other : (side : Side) (told : Answered) (why : Refusal) → is_done (refusal_answer side told why) ≡ false
 refusal-other side told refusals.Gone = refl
 refusal-other side told refusals.StoreFault = refl
 refusal-other side told refusals.JournalFull = refl
 refusal-other side told why = refused-other told.back why told.position
 
+-- nor any reply
 by-other : (side : Side) (told : Answered) (reply : Reply) → is_done (answer_by side told reply) ≡ false
 by-other side told (replies.Refused why) = refusal-other side told why
 by-other side told reply = refl

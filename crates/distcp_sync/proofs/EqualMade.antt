@@ -1,7 +1,6 @@
 -- A sync that made all calls of its plan: just behind the last of them, the trees are equal.
-use Rattle.std.proofs.Common.{◌≡◌, ℕ, zero, suc, ◌+◌, ◌-◌, ◌<◌, ◌≤◌, nat_le, nat_lt, Bool, true, false, cond, ◌&&◌, Some, Ok, List, [], ◌∷◌, ◌++◌, map, take, drop, slice_get, refl, ap, sym, subst, ◌∙◌, arith}
+use Rattle.std.proofs.Common.{◌≡◌, ℕ, zero, suc, ◌+◌, ◌-◌, ◌<◌, ◌≤◌, Bool, true, false, cond, Some, Ok, List, [], ◌∷◌, ◌++◌, map, take, drop, slice_get, refl, ap, sym, subst, ◌∙◌, arith}
 use Rattle.std.specs.List.{filter, AllByRecursion}
-use Rattle.std.proofs.lemmas.Bool.Decides.{nat_tests}
 use Rattle.hs_types.specs.Names.{Names}
 use Rattle.hs_types.specs.declared.ids.CallerId.{CallerId}
 use Rattle.hs_types.specs.declared.call.Call.{Call}
@@ -10,7 +9,6 @@ use Rattle.hs_plain.specs.Tree.{subtree}
 use Rattle.hs_plain.specs.Modifying.{live_path}
 use Rattle.hs_plain.specs.Replay.{plain_after}
 use Rattle.hs_plain.specs.Change.{is_accepted}
-use Rattle.hs_plain.specs.Span.{is_one_of}
 use Rattle.hs_plain.specs.Premises.{SyncAsk, SyncSide, IsUndisturbed, MeetsNoFault, state_before}
 use Rattle.hs_plain.specs.Plan.{AreEqual, plan_calls, bad_paths}
 use Rattle.hs_plain.proofs.ValidShapes.{none_some, same_some, true_false}
@@ -18,8 +16,9 @@ use Rattle.hs_plain.proofs.PlanCalls.{in_turn_are_merged}
 use Rattle.plan_laws.specs.Undisturbed.{AreWithinLimit, IsUnderWay, entries_between, entries_up_to, is_entry_of, plan_begun}
 use Rattle.plan_laws.proofs.UnderWay.{way-equal}
 use Rattle.copy_workers.specs.declared.copied.Made.{Made}
-use Rattle.distcp_sync.specs.Steps.{AreEntries, AreFirst, own_places, places_in, up_to_last}
-use Rattle.distcp_sync.proofs.SpanCalls.{AreBelow, all-below, first-calls, span-entries}
+use Rattle.distcp_sync.specs.Steps.{AreEntries, AreFirst, places_in, up_to_last}
+use Rattle.distcp_sync.proofs.SpanCalls.{all-below, first-calls, span-entries}
+use Rattle.distcp_sync.proofs.SpanOwn.{last-within}
 
 -- ---- accepted entries
 
@@ -44,17 +43,20 @@ at-index P [] index entry all there = absurd (none_some there)
 at-index P (one ∷ entries) zero entry all there = subst P (same_some there) all.0
 at-index P (one ∷ entries) (suc index) entry all there = at-index P entries index entry all.1 there
 
+-- what stands in the front of a list
 get-front : (n i : ℕ) (entries : List Entry) → i < n → slice_get (take n entries) i ≡ slice_get entries i
 get-front zero i entries within = absurd (omega (arith, within))
 get-front (suc n) i [] within = refl
 get-front (suc n) zero (entry ∷ entries) within = refl
 get-front (suc n) (suc i) (entry ∷ entries) within = get-front n i entries (omega (arith, within))
 
+-- what stands behind the front of a list
 get-behind : (n i : ℕ) (entries : List Entry) → slice_get (drop n entries) i ≡ slice_get entries (n + i)
 get-behind zero i entries = let same : i ≡ 0 + i = omega arith in ap (slice_get entries) same
 get-behind (suc n) i [] = refl
 get-behind (suc n) i (entry ∷ entries) = let same : suc (n + i) ≡ suc n + i = omega arith in get-behind n i entries ∙ ap (slice_get (entry ∷ entries)) same
 
+-- what stands between two indexes of a journal
 get-between : (low end index : ℕ) (journal : List Entry) → low ≤ index → index < end → slice_get (entries_between low end journal) (index - low) ≡ slice_get journal index
 get-between low end index journal from below =
     let same : low + (index - low) ≡ index = omega (arith, from) in
@@ -68,22 +70,7 @@ accepted-between callers low end journal all index entry at own =
     (kept-have (is_entry_of callers) (λ entry. is_accepted entry.kind ≡ true) (entries_between low end journal) all)
     (get-between low end index journal at.from at.below ∙ at.there) own
 
--- ---- the end of the last entry is in the span
-
-places-below : (callers : List CallerId) (low high index : ℕ) (journal : List Entry) → AreBelow high (own_places callers low high index journal)
-places-below callers low high index [] = tt
-places-below callers low high index (entry ∷ journal) = by (nat_le low index && (nat_lt index high && is_one_of callers entry.caller)) refl (places-below callers low high (index + 1) journal)
-  where
-    by : (b : Bool) → (nat_le low index && (nat_lt index high && is_one_of callers entry.caller)) ≡ b → AreBelow high (own_places callers low high (index + 1) journal) →
-        AreBelow high (cond b (index ∷ own_places callers low high (index + 1) journal) (own_places callers low high (index + 1) journal))
-    by true is more = (let under : index < high = grind (arith, nat_tests, is) in under, more)
-    by false is more = more
-
-end-within : (high : ℕ) (made : List Made) → AreBelow high (map (λ (one : Made). one.position) made) → up_to_last made ≤ high
-end-within high [] below = omega arith
-end-within high (one ∷ []) below = let last : one.position < high = below.0 in omega (arith, last)
-end-within high (one ∷ other ∷ more) below = end-within high (other ∷ more) below.1
-
+-- the end of the last entry is not before the span
 end-from : (journal : List Entry) (low : ℕ) (made : List Made) (entries : List Entry) → (made ≡ [] → ⊥) → AreEntries journal low made entries → low ≤ up_to_last made
 end-from journal low [] entries some are = absurd (some refl)
 end-from journal low (one ∷ more) [] some are = absurd are
@@ -91,8 +78,6 @@ end-from journal low (one ∷ more) (entry ∷ entries) some are =
     let from : low ≤ one.position = are.0 in
     let last : one.position < up_to_last (one ∷ more) = (all-below journal low (one ∷ more) (entry ∷ entries) are).0 in
     omega (arith, from, last)
-
--- ---- all calls of a plan
 
 -- an undisturbed sync whose entries in its span have all calls of its plan
 pub all-equal : (ask : SyncAsk) (source target : SyncSide) → AreWithinLimit source target → (undisturbed : IsUndisturbed ask source target) → (made : List Made) (accepted : List Entry) → (made ≡ [] → ⊥) →
@@ -102,7 +87,7 @@ pub all-equal : (ask : SyncAsk) (source target : SyncSide) → AreWithinLimit so
     (root : Names) → live_path ask.target_root ≡ Ok root → AreEqual undisturbed.begins.to.tree (subtree (plain_after (take (up_to_last made) target.journal)).tree root)
 all-equal ask source target limits undisturbed made accepted some are own first paths =
     let end : ℕ = up_to_last made in
-    let within : end ≤ target.span.high = end-within target.span.high made (subst (AreBelow target.span.high) own (places-below target.callers target.span.low target.span.high 0 target.journal)) in
+    let within : end ≤ target.span.high = last-within target made own in
     let planned : List Call = plan_calls ask.target_root (plan_begun ask (state_before source) (state_before target) undisturbed.begins) undisturbed.begins.to.tree in
     let entries : filter (is_entry_of target.callers) (entries_up_to target end) ≡ accepted = span-entries target end made accepted own are (omega arith) within in
     let way : IsUnderWay ask source target end = record {

@@ -46,7 +46,7 @@ ok-plain (replies.Refused why) e = absurd (cc)
 ok-plain replies.NoMemory e = absurd (cc)
 ok-plain reply e = refl
 
--- a list of snapshots is told, whether bytes are told or not
+-- the snapshots in a reply are told, whether bytes are told or not
 snaps-told : (tells : Bool) (reply : Reply) (dir : InodeId) (items : List SnapItem) → claimed tells reply ≡ claimed tells (replies.Snaps dir items) → reply ≡ replies.Snaps dir items
 snaps-told true reply dir items e = e
 snaps-told false (replies.Snaps one others) dir items e = e
@@ -72,9 +72,11 @@ pub record IsRootReply (side : SyncSide) (path : List ℕ) (look : Look) : Type 
   pub tells : (name : List ℕ) (member : Member (List ℕ)) → member_at (state_before side) path name ≡ Ok member → Stays side.journal side.span member.snapshot → TellsOf side name member look items
 
 module _ (sides : SyncSides) (side : Side) (path : List ℕ) (look : Look) (heard : IsHeard sides side (calls.Snaps path) look) (ok : is_ok_reply look.reply.reply ≡ true) where
+  -- the state that the reply knows
   abbrev here : State (List ℕ)
   here = state_at (side_at sides side) look
 
+  -- its place is in the span
   within-span : IsWithin (side_at sides side).span look.reply.position
   within-span =
       let up_to : reach_of (calls.Snaps path) look.reply ≤ (side_at sides side).span.high = heard.to in

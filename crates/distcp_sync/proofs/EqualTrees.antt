@@ -36,6 +36,7 @@ last-ends [] last = refl
 last-ends (one ∷ []) last = refl
 last-ends (one ∷ other ∷ more) last = last-ends (other ∷ more) last
 
+-- a list with a last one isn't empty
 some-made : (made : List Made) (last : Made) → made ++ last ∷ [] ≡ [] → ⊥
 some-made [] last e = cc
 some-made (one ∷ made) last e = cc
@@ -88,11 +89,13 @@ module _ (ask : SyncAsk) (page : ℕ) (sides : SyncSides) (report : SyncReport) 
         subst (λ (n : ℕ). AreEqual undisturbed.begins.to.tree (subtree (plain_after (take n sides.target.journal)).tree root)) end
         (all-equal ask sides.source sides.target limits undisturbed made.made made.accepted some are made.own first paths root leads)
 
+    -- a sync that no reply ended
     from-alone : (trees : HasTrees ask page sides report start one two) (made : HasMade ask page sides report start one two trees) → EndsAlone ask page sides report start one two trees made → Equal
     from-alone trees made (EndsAlone.done deleted last answer rest faulted copies) = from-whole trees made deleted last rest faulted
     from-alone trees made (EndsAlone.limit path answer none first) = refuse (answers.PathLimit path) refl (inl answer)
     from-alone trees made (EndsAlone.wanting answer) = refuse answers.NoMemory refl (inl answer)
 
+    -- nor did any reply end it
     from-ended : (trees : HasTrees ask page sides report start one two) (made : HasMade ask page sides report start one two trees) (looks : List Look) (ended : Option Look) →
         Ended ask page sides report start one two trees made looks ended → Equal
     from-ended trees made [] None ends = from-alone trees made ends
@@ -102,10 +105,12 @@ module _ (ask : SyncAsk) (page : ℕ) (sides : SyncSides) (report : SyncReport) 
     from-ended trees made (look ∷ next ∷ looks) None ends = absurd ends
     from-ended trees made (look ∷ next ∷ looks) (Some other) ends = absurd ends
 
+    -- the target was not changed
     from-lines : (looks : List Look) (lines : List Line) → ByChange ask page sides report start one two looks lines → Equal
     from-lines looks [] worked = from-ended worked.trees worked.made looks (ended_copy report.copies) worked.ended
     from-lines looks (line ∷ lines) ends = refuse (answers.TargetChanged line) refl ends.ends.answer
 
+    -- the target's report was answered Ok
     from-third : (looks : List Look) → Third ask page sides report one two looks (Ok start) → Equal
     from-third [] ends = refuse answers.NoMemory refl ends.answer
     from-third (three ∷ looks) third = by (is_ok_reply three.reply.reply) third.1
@@ -114,6 +119,7 @@ module _ (ask : SyncAsk) (page : ℕ) (sides : SyncSides) (report : SyncReport) 
         by true change = from-lines looks (lines_shown three.reply.reply) change
         by false ends = refuse (answer_at three) (look-other three) ends.ends.answer
 
+    -- the sync begins with the premises' snapshots
     begins-so : begun ask one.reply.reply two.reply.reply ≡ Ok start
     begins-so =
         ap (λ r. begun ask r two.reply.reply) source.reply_is ∙ ap (begun ask (replies.Snaps source.dir source.items)) target.reply_is
@@ -123,9 +129,11 @@ module _ (ask : SyncAsk) (page : ℕ) (sides : SyncSides) (report : SyncReport) 
         (target.tells ask.from undisturbed.begins.base undisturbed.begins.has_base undisturbed.base_stays).named
         undisturbed.begins.rising
 
+    -- from there on
     from-begun : (looks : List Look) → Third ask page sides report one two looks (begun ask one.reply.reply two.reply.reply) → Equal
     from-begun looks third = from-third looks (subst (λ begin. Third ask page sides report one two looks begin) begins-so third)
 
+  -- the target's root was told of
   from-second : (one : Look) (looks : List Look) → IsRootReply sides.source ask.source_root one → Second ask page sides report one looks true → Equal
   from-second one [] source ends = refuse answers.NoMemory refl ends.answer
   from-second one (two ∷ looks) source second = by (is_ok_reply two.reply.reply) refl second.1
@@ -134,6 +142,7 @@ module _ (ask : SyncAsk) (page : ℕ) (sides : SyncSides) (report : SyncReport) 
       by true ok third = from-begun one two source (root-replied sides Target ask.target_root two second.0 ok ask.from undisturbed.begins.base undisturbed.begins.has_base undisturbed.base_stays) looks third
       by false ok ends = refuse (root_answer Target two.reply.reply) (root-other Target two.reply.reply) ends.ends.answer
 
+  -- the source's root was told of
   from-first : (looks : List Look) → First ask page sides report looks → Equal
   from-first [] ends = refuse answers.NoMemory refl ends.answer
   from-first (one ∷ looks) first = by (is_ok_reply one.reply.reply) refl first.1
@@ -142,5 +151,6 @@ module _ (ask : SyncAsk) (page : ℕ) (sides : SyncSides) (report : SyncReport) 
       by true ok second = from-second one looks (root-replied sides Source ask.source_root one first.0 ok ask.from undisturbed.begins.from undisturbed.begins.has_from undisturbed.from_stays) second
       by false ok ends = refuse (root_answer Source one.reply.reply) (root-other Source one.reply.reply) ends.ends.answer
 
+  -- from its first reply on
   pub are-equal : First ask page sides report report.looks → Equal
   are-equal = from-first report.looks

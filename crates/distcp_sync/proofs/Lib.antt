@@ -10,6 +10,8 @@ mod Entered
 mod Runs
 mod Queued
 pub mod SpanCalls
+pub mod SpanOwn
+pub mod Premised
 pub mod Replied
 pub mod Started
 pub mod Done
