@@ -12,6 +12,13 @@ mod Unplanned
 mod Entered
 mod Runs
 mod Queued
+pub mod SpanCalls
+pub mod SpanOwn
+pub mod Premised
 pub mod Replied
 pub mod Started
 pub mod Done
+mod EqualEnds
+mod EqualStart
+mod EqualMade
+mod EqualTrees
