@@ -1,8 +1,14 @@
 -- The calls of a sync, as its two links count them.
-use Rattle.std.specs.Prelude.{◌≡◌, ℕ, ◌≤◌, true, ◌&&◌, nat_le, if◌then◌else◌, Bool, List, [], ◌∷◌, ◌++◌, map, Option, Some, None}
+use Rattle.std.specs.Prelude.{◌≡◌, ℕ, ◌≤◌, true, ◌&&◌, nat_le, if◌then◌else◌, Bool, List, [], ◌∷◌, ◌++◌, map, slice_get, Option, Some, None}
+use Rattle.std.specs.List.{AllByRecursion}
 use mathlib.Core.List.{IsPrefix}
+use Rattle.hs_types.specs.declared.ids.CallerId.{CallerId}
 use Rattle.hs_types.specs.declared.ids.Side.{Side}
 use Rattle.hs_types.specs.declared.ids.Side.TheVariants.{Source, Target}
+use Rattle.hs_types.specs.declared.call.Call.TheVariants as calls
+use Rattle.hs_types.specs.declared.call.ReadCursor.{ReadCursor}
+use Rattle.hs_types.specs.declared.journal.Entry.{Entry}
+use Rattle.hs_types.specs.declared.journal.EntryKind.TheVariants.{Faulted}
 use Rattle.hs_plain.specs.Answer.{is_store_fault}
 use Rattle.hs_plain.specs.Legal.{number_rises, places_of}
 use Rattle.page_join.specs.Links.{Known, IsLawful}
@@ -36,14 +42,34 @@ faulted_at (Some look) = faulted_by look.side look
 abbrev pub AddPlaces : Known → Known → List ℕ → Type 0
 AddPlaces old new places = places_of old.caller.0 0 new.seen ≡ places_of old.caller.0 0 old.seen ++ places
 
+-- an entry that a sync of this caller made stands in the journal
+pub record IsMadeIn (journal : List Entry) (caller : CallerId) (made : Made) : Type 0 where
+  pub entry : Entry
+  pub there : slice_get journal made.position ≡ Some entry
+  pub of_caller : entry.caller.0 ≡ caller.0
+  pub caller_is : made.caller.0 ≡ caller.0
+  pub seq_is : entry.seq ≡ made.seq
+
+-- a page of a file that a sync of this caller read met a fault of the store there
+pub record IsFailedRead (journal : List Entry) (caller : CallerId) (place : ℕ) : Type 0 where
+  pub entry : Entry
+  pub there : slice_get journal place ≡ Some entry
+  pub of_caller : entry.caller.0 ≡ caller.0
+  pub kind_is : entry.kind ≡ Faulted
+  pub cursor : ReadCursor
+  pub len : ℕ
+  pub call_is : entry.call ≡ calls.ReadNext cursor len
+
 -- what a sync's calls left at both sides
 pub record AreSyncCalls (source source_then target target_then : Known) (report : SyncReport) : Type 0 where
   pub source_goes : HasGone source source_then
   pub target_goes : HasGone target target_then
   -- the source has a faulted read alone, which then was the last call there
   pub source_places : AddPlaces source source_then (faulted_at (ended_copy report.copies))
+  pub failed : AllByRecursion (IsFailedRead source_then.seen source.caller) (faulted_at (ended_copy report.copies))
   -- the target has the entries that the report names
   pub made : List Made
   pub all : AreAllMade report made
   pub target_places : AddPlaces target target_then (map (λ one. one.position) made)
+  pub entered : AllByRecursion (IsMadeIn target_then.seen target.caller) made
   pub numbers : seqs_rise target.calls target_then.calls made ≡ true

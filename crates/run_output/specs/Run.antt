@@ -1,21 +1,17 @@
 -- What a run of a script is.
-use Rattle.std.specs.Prelude.{◌≡◌, ℕ, ◌+◌, ◌*◌, ◌≤◌, Bool, true, false, ◌&&◌, ◌==◌, nat_lt, List, [], ◌∷◌, ◌++◌, map, length, slice_get, Option, Some, None, ⊤}
+use Rattle.std.specs.Prelude.{◌≡◌, ℕ, ◌+◌, ◌*◌, ◌≤◌, Bool, true, false, ◌&&◌, ◌==◌, nat_lt, List, [], ◌∷◌, ◌++◌, map, length, Option, Some, None, ⊤}
 use Rattle.std.specs.List.{filter_map, flat_map, list_all, AllByRecursion}
 use Rattle.hs_types.specs.declared.ids.CallerId.{CallerId}
 use Rattle.hs_types.specs.declared.ids.Side.{Side}
 use Rattle.hs_types.specs.declared.ids.Side.TheVariants.{Source, Target}
-use Rattle.hs_types.specs.declared.call.Call.{Call}
-use Rattle.hs_types.specs.declared.call.Call.TheVariants as calls
-use Rattle.hs_types.specs.declared.call.ReadCursor.{ReadCursor}
 use Rattle.hs_types.specs.declared.journal.Entry.{Entry}
-use Rattle.hs_types.specs.declared.journal.EntryKind.TheVariants.{Faulted}
 use Rattle.hs_types.specs.declared.shown.Counts.{Counts}
 use Rattle.hs_types.specs.declared.reply.Answered.{Answered}
 use Rattle.hs_types.specs.Limits.{journal_limit}
 use Rattle.hs_plain.specs.Legal.{Said, IsLegalCall, places_of}
 use Rattle.hs_plain.specs.Replay.{plain_after, is_proper}
 use Rattle.hs_plain.specs.Lines.{tree_lines}
-use Rattle.copy_workers.specs.declared.copied.Made.{Made}
+use Rattle.distcp_sync.specs.Calls.{IsMadeIn, IsFailedRead}
 use Rattle.distcp_sync.specs.Synced.{IsSynced}
 use Rattle.script_text.specs.declared.script.ScriptLine.{ScriptLine}
 use Rattle.script_text.specs.declared.script.Section.{Section}
@@ -89,31 +85,13 @@ caller c = record { 0 = c }
 abbrev pub IsLegal : Bool → List Entry → ℕ → Said → Type 0
 IsLegal tells journal c said = IsLegalCall tells journal_limit journal (caller c) said.seq said.call said.told
 
--- a sync of this caller made this entry
-pub record IsMade (journal : List Entry) (c : ℕ) (made : Made) : Type 0 where
-  pub entry : Entry
-  pub there : slice_get journal made.position ≡ Some entry
-  pub of_caller : entry.caller.0 ≡ c
-  pub caller_is : made.caller.0 ≡ c
-  pub seq_is : entry.seq ≡ made.seq
-
--- a page of a file that a sync of this caller read there met a fault of the store
-pub record IsFailedRead (journal : List Entry) (c place : ℕ) : Type 0 where
-  pub entry : Entry
-  pub there : slice_get journal place ≡ Some entry
-  pub of_caller : entry.caller.0 ≡ c
-  pub kind_is : entry.kind ≡ Faulted
-  pub cursor : ReadCursor
-  pub len : ℕ
-  pub call_is : entry.call ≡ calls.ReadNext cursor len
-
 -- a caller's replies are legal, and its entries in the journal are those of its steps, in order
 pub record AreLegal (tells : Bool) (journal : List Entry) (c : ℕ) (steps : List Step) : Type 0 where
   pub each : AllByRecursion (IsLegal tells journal c) (filter_map said_in steps)
   -- its calls are counted from 1
   pub numbers : are_counted 0 steps ≡ true
-  pub made_each : AllByRecursion (IsMade journal c) (filter_map made_in steps)
-  pub failed_each : AllByRecursion (IsFailedRead journal c) (filter_map failed_in steps)
+  pub made_each : AllByRecursion (IsMadeIn journal (caller c)) (filter_map made_in steps)
+  pub failed_each : AllByRecursion (IsFailedRead journal (caller c)) (filter_map failed_in steps)
   pub entries : places_of c 0 journal ≡ filter_map left_at steps
 
 -- client c is caller c
