@@ -5,7 +5,10 @@ mod Did
 mod Begun
 mod Unmade
 mod Fetches
+mod Shown
 mod Trees
+mod OfTrees
+mod Unplanned
 mod Entered
 mod Runs
 mod Queued
