@@ -12,3 +12,4 @@ mod Queued
 pub mod Replied
 pub mod Started
 pub mod Done
+mod Tries

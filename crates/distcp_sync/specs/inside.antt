@@ -2,3 +2,4 @@
 pub mod Trace
 pub mod Queue
 pub mod Runs
+pub mod Tried

@@ -1,19 +1,17 @@
 //! The moves of a plan, and the delete of its temporary directory.
-ghost use Rattle.std.specs.Prelude.{◌≡◌, ◌<◌, ◌∷◌, [], vec_len, vec_capacity};
-ghost use Rattle.hs_plain.specs.Plan.{last_call};
+ghost use Rattle.std.specs.Prelude.{◌≡◌, ◌<◌, ◌∷◌, ◌++◌, [], map, true, IfOk, OnOk, vec_len, vec_capacity};
+ghost use Rattle.hs_types.specs.declared.call.Call.TheVariants as calls;
+ghost use Rattle.hs_plain.specs.Plan.{text_below, out_place, out_calls, put_call as planned_put, move_calls, last_call};
+ghost use Rattle.distcp_sync.specs.inside.Tried.{IsTried};
 
 use crate::answer::SyncAnswer;
 use crate::answering::answer_at;
 use copy_workers::{Look, Made, is_ok_reply, write};
 use distcp_plan::{out_text, text_below, tmp_text};
 use hs_plain::{Plan, Put};
-use hs_types::{Call, Name, NoMemory, PathText, RelPath, Side};
+use hs_types::{Call, NoMemory, PathText, RelPath, Side};
 use page_join::NameLink;
 use std::alloc::Global;
-
-// Open: the contracts of these functions, `AreTried` of the calls of each over what was made and looked at before
-// (`made.new.items ≡ made.old.items ++ ..`, `looks.new.items ≡ looks.old.items ++ ..`). `write` stands here and not
-// `change`, since a want of memory before a call leaves no look, which the look of `change` doesn't tell apart.
 
 /// Makes the temporary directory, moves the outs into it and makes the puts.
 pub(crate) fn make_moves<L: NameLink>(
@@ -25,6 +23,11 @@ pub(crate) fn make_moves<L: NameLink>(
     looks: &mut Vec<Look>,
 ) -> Result<(), SyncAnswer>
     requires room { vec_len looks.old < vec_capacity looks.old }
+    ensures number { L.number target.new ≡ L.number target.old }
+    ensures alone { L.alone target.new ≡ L.alone target.old }
+    ensures stays { L.stays target.old target.new }
+    ensures tried { IsTried (L.known target.old) (L.known target.new) (move_calls root.now plan.now) made.old.items made.new.items looks.old.items looks.new.items result }
+    ensures room { OnOk result (vec_len looks.new < vec_capacity looks.new) }
 {
     make_tmp(alloc, root, plan, target, made, looks)?;
     make_outs(alloc, root, plan, target, made, looks)?;
@@ -40,6 +43,11 @@ fn make_tmp<L: NameLink>(
     looks: &mut Vec<Look>,
 ) -> Result<(), SyncAnswer>
     requires room { vec_len looks.old < vec_capacity looks.old }
+    ensures number { L.number target.new ≡ L.number target.old }
+    ensures alone { L.alone target.new ≡ L.alone target.old }
+    ensures stays { L.stays target.old target.new }
+    ensures tried { IsTried (L.known target.old) (L.known target.new) (calls.Mkdir (text_below root.now (plan.now.tmp ∷ [])) ∷ []) made.old.items made.new.items looks.old.items looks.new.items result }
+    ensures room { OnOk result (vec_len looks.new < vec_capacity looks.new) }
 {
     match tmp_text(alloc, root, &plan.tmp) {
         Ok(path) => make(target, Call::Mkdir { path }, made, looks),
@@ -56,11 +64,14 @@ fn make_outs<L: NameLink>(
     looks: &mut Vec<Look>,
 ) -> Result<(), SyncAnswer>
     requires room { vec_len looks.old < vec_capacity looks.old }
+    ensures number { L.number target.new ≡ L.number target.old }
+    ensures alone { L.alone target.new ≡ L.alone target.old }
+    ensures stays { L.stays target.old target.new }
+    ensures tried { IsTried (L.known target.old) (L.known target.new) (out_calls root.now plan.now 0 plan.now.outs) made.old.items made.new.items looks.old.items looks.new.items result }
+    ensures room { OnOk result (vec_len looks.new < vec_capacity looks.new) }
 {
-    let mut index = 0;
-    for path in plan.outs.items() {
-        make_out(alloc, root, &plan.tmp, index, path, target, made, looks)?;
-        index += 1;
+    for (index, path) in plan.outs.items().iter().enumerate() {
+        make_out(alloc, root, plan, index as u64, path, target, made, looks)?;
     }
     Ok(())
 }
@@ -68,7 +79,7 @@ fn make_outs<L: NameLink>(
 fn make_out<L: NameLink>(
     alloc: Global,
     root: &PathText,
-    tmp: &Name,
+    plan: &Plan,
     index: u64,
     path: &RelPath,
     target: &mut L,
@@ -76,8 +87,13 @@ fn make_out<L: NameLink>(
     looks: &mut Vec<Look>,
 ) -> Result<(), SyncAnswer>
     requires room { vec_len looks.old < vec_capacity looks.old }
+    ensures number { L.number target.new ≡ L.number target.old }
+    ensures alone { L.alone target.new ≡ L.alone target.old }
+    ensures stays { L.stays target.old target.new }
+    ensures tried { IsTried (L.known target.old) (L.known target.new) (calls.Rename (text_below root.now path.now) (text_below root.now (out_place plan.now index)) ∷ []) made.old.items made.new.items looks.old.items looks.new.items result }
+    ensures room { OnOk result (vec_len looks.new < vec_capacity looks.new) }
 {
-    match out_call(alloc, root, tmp, index, path) {
+    match out_call(alloc, root, plan, index, path) {
         Ok(call) => make(target, call, made, looks),
         Err(NoMemory) => Err(SyncAnswer::NoMemory),
     }
@@ -86,12 +102,14 @@ fn make_out<L: NameLink>(
 fn out_call(
     alloc: Global,
     root: &PathText,
-    tmp: &Name,
+    plan: &Plan,
     index: u64,
     path: &RelPath,
-) -> Result<Call, NoMemory> {
+) -> Result<Call, NoMemory>
+    ensures { IfOk result (λ call. call ≡ calls.Rename (text_below root.now path.now) (text_below root.now (out_place plan.now index))) }
+{
     let old = text_below(alloc, root, path.items())?;
-    let new = out_text(alloc, root, tmp, index)?;
+    let new = out_text(alloc, root, &plan.tmp, index)?;
     Ok(Call::Rename { old, new })
 }
 
@@ -104,9 +122,14 @@ fn make_puts<L: NameLink>(
     looks: &mut Vec<Look>,
 ) -> Result<(), SyncAnswer>
     requires room { vec_len looks.old < vec_capacity looks.old }
+    ensures number { L.number target.new ≡ L.number target.old }
+    ensures alone { L.alone target.new ≡ L.alone target.old }
+    ensures stays { L.stays target.old target.new }
+    ensures tried { IsTried (L.known target.old) (L.known target.new) (map (planned_put root.now plan.now) plan.now.puts) made.old.items made.new.items looks.old.items looks.new.items result }
+    ensures room { OnOk result (vec_len looks.new < vec_capacity looks.new) }
 {
     for put in plan.puts.items() {
-        make_put(alloc, root, &plan.tmp, put, target, made, looks)?;
+        make_put(alloc, root, plan, put, target, made, looks)?;
     }
     Ok(())
 }
@@ -114,23 +137,30 @@ fn make_puts<L: NameLink>(
 fn make_put<L: NameLink>(
     alloc: Global,
     root: &PathText,
-    tmp: &Name,
+    plan: &Plan,
     put: &Put,
     target: &mut L,
     made: &mut Vec<Made>,
     looks: &mut Vec<Look>,
 ) -> Result<(), SyncAnswer>
     requires room { vec_len looks.old < vec_capacity looks.old }
+    ensures number { L.number target.new ≡ L.number target.old }
+    ensures alone { L.alone target.new ≡ L.alone target.old }
+    ensures stays { L.stays target.old target.new }
+    ensures tried { IsTried (L.known target.old) (L.known target.new) (planned_put root.now plan.now put.now ∷ []) made.old.items made.new.items looks.old.items looks.new.items result }
+    ensures room { OnOk result (vec_len looks.new < vec_capacity looks.new) }
 {
-    match put_call(alloc, root, tmp, put) {
+    match put_call(alloc, root, plan, put) {
         Ok(call) => make(target, call, made, looks),
         Err(NoMemory) => Err(SyncAnswer::NoMemory),
     }
 }
 
-fn put_call(alloc: Global, root: &PathText, tmp: &Name, put: &Put) -> Result<Call, NoMemory> {
+fn put_call(alloc: Global, root: &PathText, plan: &Plan, put: &Put) -> Result<Call, NoMemory>
+    ensures { IfOk result (λ call. call ≡ planned_put root.now plan.now put.now) }
+{
     match put {
-        Put::Back { index, to } => back_call(alloc, root, tmp, *index, to),
+        Put::Back { index, to } => back_call(alloc, root, plan, *index, to),
         Put::NewDir { to } => Ok(Call::Mkdir {
             path: text_below(alloc, root, to.items())?,
         }),
@@ -140,11 +170,13 @@ fn put_call(alloc: Global, root: &PathText, tmp: &Name, put: &Put) -> Result<Cal
 fn back_call(
     alloc: Global,
     root: &PathText,
-    tmp: &Name,
+    plan: &Plan,
     index: u64,
     to: &RelPath,
-) -> Result<Call, NoMemory> {
-    let old = out_text(alloc, root, tmp, index)?;
+) -> Result<Call, NoMemory>
+    ensures { IfOk result (λ call. call ≡ calls.Rename (text_below root.now (out_place plan.now index)) (text_below root.now to.now)) }
+{
+    let old = out_text(alloc, root, &plan.tmp, index)?;
     let new = text_below(alloc, root, to.items())?;
     Ok(Call::Rename { old, new })
 }
@@ -159,6 +191,11 @@ pub(crate) fn delete_tmp<L: NameLink>(
     looks: &mut Vec<Look>,
 ) -> Result<(), SyncAnswer>
     requires room { vec_len looks.old < vec_capacity looks.old }
+    ensures number { L.number target.new ≡ L.number target.old }
+    ensures alone { L.alone target.new ≡ L.alone target.old }
+    ensures stays { L.stays target.old target.new }
+    ensures tried { IsTried (L.known target.old) (L.known target.new) (last_call root.now plan.now ∷ []) made.old.items made.new.items looks.old.items looks.new.items result }
+    ensures room { OnOk result (vec_len looks.new < vec_capacity looks.new) }
 {
     match tmp_text(alloc, root, &plan.tmp) {
         Ok(path) => {
@@ -177,6 +214,11 @@ fn make<L: NameLink>(
     looks: &mut Vec<Look>,
 ) -> Result<(), SyncAnswer>
     requires room { vec_len looks.old < vec_capacity looks.old }
+    ensures number { L.number target.new ≡ L.number target.old }
+    ensures alone { L.alone target.new ≡ L.alone target.old }
+    ensures stays { L.stays target.old target.new }
+    ensures tried { IsTried (L.known target.old) (L.known target.new) (call ∷ []) made.old.items made.new.items looks.old.items looks.new.items result }
+    ensures room { OnOk result (vec_len looks.new < vec_capacity looks.new) }
 {
     let caller = target.caller();
     let reply = match write(target, call, made) {
