@@ -20,8 +20,8 @@ use Rattle.copy_workers.proofs.Calling.{made_caller}
 use Rattle.distcp_sync.specs.declared.answer.SyncAnswer.{SyncAnswer}
 use Rattle.distcp_sync.specs.declared.answer.SyncAnswer.TheVariants as answers
 use Rattle.distcp_sync.specs.Told.{answer_at, OrNoMemory}
-use Rattle.distcp_sync.specs.inside.Trace.{IsLooked, IsLookedBad, AreDone, StopsAt, by_reply, by_memory, AreTried, all, some}
-use Rattle.distcp_sync.specs.inside.Tried.{IsTried, IsDoneUpTo}
+use Rattle.distcp_sync.specs.inside.Trace.{AreDone, StopsAt, by_reply, by_memory, AreTried, all, some}
+use Rattle.distcp_sync.specs.inside.Tried.{IsTried, IsNoted, IsDoneUpTo}
 
 -- ---- calls that were done
 
@@ -89,7 +89,7 @@ one_ok old new call before after told ok write = record {
 }
 
 -- a call that was done
-pub makes : (old new : Known) (call : Call) (before after : List Made) (looked : List Look) (told : Answered) → is_ok_reply told.reply ≡ true → IsWrite old new call before after told → IsTried old new (call ∷ []) before after looked looked (Ok tt)
+makes : (old new : Known) (call : Call) (before after : List Made) (looked : List Look) (told : Answered) → is_ok_reply told.reply ≡ true → IsWrite old new call before after told → IsTried old new (call ∷ []) before after looked looked (Ok tt)
 makes old new call before after looked told ok write = record {
   added = option_to_list (made_by old.caller (said_by new call told));
   later = [];
@@ -99,16 +99,25 @@ makes old new call before after looked told ok write = record {
 }
 
 -- a call whose reply isn't an Ok reply
-pub fails : (old new : Known) (call : Call) (before after : List Made) (looked looks : List Look) (look : Look) (answer : SyncAnswer) → look ≡ look_at Target old.caller look.reply → is_ok_reply look.reply.reply ≡ false →
-    IsWrite old new call before after look.reply → looks ≡ looked ++ look ∷ [] → OrNoMemory (answer_at look) answer → IsTried old new (call ∷ []) before after looked looks (Err answer)
-fails old new call before after looked looks look answer is bad write put told = record {
-  added = option_to_list (made_by old.caller (said_by new call look.reply));
-  later = look ∷ [];
+fails : (old new : Known) (call : Call) (before after : List Made) (looked looks : List Look) (told : Answered) (answer : SyncAnswer) → is_ok_reply told.reply ≡ false →
+    IsWrite old new call before after told → looks ≡ looked ++ look_at Target old.caller told ∷ [] → OrNoMemory (answer_at (look_at Target old.caller told)) answer → IsTried old new (call ∷ []) before after looked looks (Err answer)
+fails old new call before after looked looks told answer bad write put ends = record {
+  added = option_to_list (made_by old.caller (said_by new call told));
+  later = look_at Target old.caller told ∷ [];
   made = write.named;
   looks_are = put;
-  tried = some [] [] call old [] (option_to_list (made_by old.caller (said_by new call look.reply))) (look ∷ []) answer refl (done_none old)
-      (by_reply look answer (record { looked = record { look_is = is; called = write.called }; bad = bad }) told);
+  tried = some [] [] call old [] (option_to_list (made_by old.caller (said_by new call told))) (look_at Target old.caller told ∷ []) answer refl (done_none old)
+      (by_reply (look_at Target old.caller told) answer (record { looked = record { look_is = refl; called = write.called }; bad = bad }) ends);
 }
+
+-- a call with its reply
+pub noted : (old new : Known) (call : Call) (before after : List Made) (looked looks : List Look) (caller : CallerId) (told : Answered) (result : Result (Unit {0}) SyncAnswer) → caller ≡ old.caller →
+    IsWrite old new call before after told → IsNoted caller told looked looks result → IsTried old new (call ∷ []) before after looked looks result
+noted old new call before after looked looks caller told (Ok done) is write note =
+    subst (λ (l : List Look). IsTried old new (call ∷ []) before after looked l (Ok tt)) (sym note.1) (makes old new call before after looked told note.0 write)
+noted old new call before after looked looks caller told (Err answer) is write note =
+    let at : IsNoted old.caller told looked looks (Err answer) = subst (λ (c : CallerId). IsNoted c told looked looks (Err answer)) is note in
+    fails old new call before after looked looks told answer at.0 write at.1 at.2
 
 -- a call for which memory ran out
 pub wants : (old new : Known) (call : Call) (before after : List Made) (looked : List Look) → new ≡ old → after ≡ before → IsTried old new (call ∷ []) before after looked looked (Err answers.NoMemory)

@@ -2,14 +2,14 @@
 ghost use Rattle.std.specs.Prelude.{◌≡◌, ◌<◌, ◌∷◌, ◌++◌, [], map, true, IfOk, OnOk, vec_len, vec_capacity};
 ghost use Rattle.hs_types.specs.declared.call.Call.TheVariants as calls;
 ghost use Rattle.hs_plain.specs.Plan.{text_below, out_place, out_calls, put_call as planned_put, move_calls, last_call};
-ghost use Rattle.distcp_sync.specs.inside.Tried.{IsTried};
+ghost use Rattle.distcp_sync.specs.inside.Tried.{IsTried, IsNoted};
 
 use crate::answer::SyncAnswer;
 use crate::answering::answer_at;
 use copy_workers::{Look, Made, is_ok_reply, write};
 use distcp_plan::{out_text, text_below, tmp_text};
 use hs_plain::{Plan, Put};
-use hs_types::{Call, NoMemory, PathText, RelPath, Side};
+use hs_types::{Answered, Call, CallerId, NoMemory, PathText, RelPath, Side};
 use page_join::NameLink;
 use std::alloc::Global;
 
@@ -221,19 +221,28 @@ fn make<L: NameLink>(
     ensures room { OnOk result (vec_len looks.new < vec_capacity looks.new) }
 {
     let caller = target.caller();
-    let reply = match write(target, call, made) {
-        Ok(answered) => answered,
-        Err(NoMemory) => return Err(SyncAnswer::NoMemory),
-    };
-    if is_ok_reply(&reply.reply) {
-        return Ok(());
+    match write(target, call, made) {
+        Ok(reply) => note_reply(caller, reply, looks),
+        Err(NoMemory) => Err(SyncAnswer::NoMemory),
     }
-    let look = Look {
-        side: Side::Target,
-        caller,
-        reply,
-    };
-    let answer = answer_at(&look);
-    looks.push_reserved(look);
-    Err(answer)
+}
+
+fn note_reply(caller: CallerId, reply: Answered, looks: &mut Vec<Look>) -> Result<(), SyncAnswer>
+    requires room { vec_len looks.old < vec_capacity looks.old }
+    ensures noted { IsNoted caller reply looks.old.items looks.new.items result }
+    ensures room { OnOk result (vec_len looks.new < vec_capacity looks.new) }
+{
+    if is_ok_reply(&reply.reply) {
+        Ok(())
+    } else {
+        let side = Side::Target;
+        let look = Look {
+            side,
+            caller,
+            reply,
+        };
+        let answer = answer_at(&look);
+        looks.push_reserved(look);
+        Err(answer)
+    }
 }

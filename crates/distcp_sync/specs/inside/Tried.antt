@@ -1,12 +1,17 @@
 -- Calls of a plan, with what is named and looked at before and after them. For proofs and private contracts alone.
-use Rattle.std.specs.Prelude.{◌≡◌, ℕ, ◌+◌, List, ◌++◌, length, Option, Some, None, Result, Ok, Err}
+use Rattle.std.specs.Prelude.{◌≡◌, ℕ, ◌+◌, true, false, List, [], ◌∷◌, ◌++◌, length, Option, Some, None, Result, Ok, Err}
+use Rattle.hs_types.specs.declared.ids.CallerId.{CallerId}
+use Rattle.hs_types.specs.declared.ids.Side.TheVariants.{Target}
 use Rattle.hs_types.specs.declared.ids.SnapId.{SnapId}
 use Rattle.hs_types.specs.declared.call.Call.{Call}
+use Rattle.hs_types.specs.declared.reply.Answered.{Answered}
 use Rattle.hs_plain.specs.declared.plan.CopyJob.{CopyJob}
+use Rattle.hs_plain.specs.Answer.{is_ok_reply}
 use Rattle.page_join.specs.Links.{Known}
 use Rattle.copy_workers.specs.declared.copied.Made.{Made}
 use Rattle.copy_workers.specs.declared.copied.Look.{Look}
 use Rattle.copy_workers.specs.declared.copied.Copied.{Copied}
+use Rattle.copy_workers.specs.Calls.{look_at}
 use Rattle.distcp_sync.specs.declared.answer.SyncAnswer.{SyncAnswer}
 use Rattle.distcp_sync.specs.Told.{answer_at, OrNoMemory}
 use Rattle.distcp_sync.specs.inside.Trace.{AreTried, AreCopied}
@@ -18,6 +23,11 @@ pub record IsTried (old new : Known) (planned : List Call) (before after : List 
   pub made : after ≡ before ++ added
   pub looks_are : looks ≡ looked ++ later
   pub tried : AreTried old new planned added later result
+
+-- a reply to a call at the target: an Ok reply leaves nothing, and any other is put to the looks
+abbrev pub IsNoted : CallerId → Answered → List Look → List Look → Result (Unit {0}) SyncAnswer → Type 0
+IsNoted caller told looked looks (Ok done) = (is_ok_reply told.reply ≡ true) × (looks ≡ looked)
+IsNoted caller told looked looks (Err answer) = (is_ok_reply told.reply ≡ false) × (looks ≡ looked ++ look_at Target caller told ∷ []) × OrNoMemory (answer_at (look_at Target caller told)) answer
 
 -- the first of some calls were done, and these are left
 pub record IsDoneUpTo (old new : Known) (whole left : List Call) (before after : List Made) (looked looks : List Look) : Type 0 where
