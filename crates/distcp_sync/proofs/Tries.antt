@@ -1,6 +1,7 @@
 -- Calls of a plan that are tried one after the other.
 use Rattle.std.proofs.Common.{◌≡◌, ℕ, true, false, Option, Some, None, Ok, Err, Result, List, [], ◌∷◌, ◌++◌, map, refl, ap, sym, ◌∙◌, subst, inl, inr, append-nil, append_assoc}
 use Rattle.std.specs.Option.{option_to_list}
+use Rattle.std.specs.Result.{IsErrAnd}
 use Rattle.std.specs.List.{filter_map, cons_option, AllByRecursion}
 use Rattle.std.proofs.lemmas.List.{map-append}
 use Rattle.std.proofs.lemmas.List.Elements.{filter_map-append}
@@ -180,3 +181,9 @@ upto_ended old now new whole step left made0 made1 made2 looks0 looks1 looks2 an
 pub upto_all : (old new : Known) (whole : List Call) (before after : List Made) (looked looks : List Look) → IsDoneUpTo old new whole [] before after looked looks → IsTried old new whole before after looked looks (Ok tt)
 upto_all old new whole before after looked looks up =
     subst (λ (calls : List Call). IsTried old new calls before after looked looks (Ok tt)) (sym (up.all ∙ append-nil up.front)) up.tried
+
+-- ---- a result of an error that came from another
+
+pub ends_with : (result : Result (Unit {0}) SyncAnswer) (answer : SyncAnswer) (P : Result (Unit {0}) SyncAnswer → Type 0) → IsErrAnd result (λ given. given ≡ answer) → P (Err answer) → P result
+ends_with (Ok done) answer P gives p = absurd gives
+ends_with (Err given) answer P gives p = subst (λ (a : SyncAnswer). P (Err a)) (sym gives) p
