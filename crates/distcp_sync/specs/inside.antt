@@ -2,3 +2,5 @@
 pub mod Trace
 pub mod Queue
 pub mod Runs
+pub mod Pages
+pub mod Fetching

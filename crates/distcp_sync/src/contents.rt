@@ -1,6 +1,6 @@
 //! Pages put together, up to the reply that is none.
-// Open: what a content is has no contract yet; it is to be `items_shown`, or `lines_shown`, of all replies, or the first reply
-// that is no page.
+ghost use Rattle.std.specs.Prelude.{◌≡◌, ◌++◌, [], IfOk, OnOk};
+ghost use Rattle.distcp_sync.specs.inside.Pages.{items_of_page, lines_of_page, content_of, IsAdded};
 
 use hs_types::{Answered, Item, Line, List, NoMemory, Reply};
 use std::alloc::Global;
@@ -16,7 +16,9 @@ pub(crate) enum Content<T> {
 pub(crate) fn joined_items(
     alloc: Global,
     replies: List<Answered>,
-) -> Result<Content<Item>, NoMemory> {
+) -> Result<Content<Item>, NoMemory>
+    ensures { IfOk result (λ content. content ≡ content_of items_of_page [] replies) }
+{
     let mut items = Vec::new(alloc);
     for answered in replies.into_vec() {
         if let Some(ended) = add_page(&mut items, answered)? {
@@ -27,7 +29,9 @@ pub(crate) fn joined_items(
 }
 
 /// Adds what a page holds, and gives back what is no page.
-fn add_page(items: &mut Vec<Item>, answered: Answered) -> Result<Option<Answered>, NoMemory> {
+fn add_page(items: &mut Vec<Item>, answered: Answered) -> Result<Option<Answered>, NoMemory>
+    ensures { IfOk result (IsAdded (items_of_page answered.reply) answered items.old.items items.new.items) }
+{
     let Answered {
         reply,
         position,
@@ -35,7 +39,7 @@ fn add_page(items: &mut Vec<Item>, answered: Answered) -> Result<Option<Answered
     } = answered;
     match reply {
         Reply::Page { items: more, .. } => {
-            add_items(items, more)?;
+            push_all(items, more)?;
             Ok(None)
         }
         reply => Ok(Some(Answered {
@@ -46,18 +50,13 @@ fn add_page(items: &mut Vec<Item>, answered: Answered) -> Result<Option<Answered
     }
 }
 
-fn add_items(items: &mut Vec<Item>, more: List<Item>) -> Result<(), NoMemory> {
-    for item in more.into_vec() {
-        items.push(item)?;
-    }
-    Ok(())
-}
-
 /// The lines of a report's pages.
 pub(crate) fn joined_lines(
     alloc: Global,
     replies: List<Answered>,
-) -> Result<Content<Line>, NoMemory> {
+) -> Result<Content<Line>, NoMemory>
+    ensures { IfOk result (λ content. content ≡ content_of lines_of_page [] replies) }
+{
     let mut lines = Vec::new(alloc);
     for answered in replies.into_vec() {
         if let Some(ended) = add_report(&mut lines, answered)? {
@@ -68,7 +67,9 @@ pub(crate) fn joined_lines(
 }
 
 /// Adds the lines of a page, and gives back what is no page.
-fn add_report(lines: &mut Vec<Line>, answered: Answered) -> Result<Option<Answered>, NoMemory> {
+fn add_report(lines: &mut Vec<Line>, answered: Answered) -> Result<Option<Answered>, NoMemory>
+    ensures { IfOk result (IsAdded (lines_of_page answered.reply) answered lines.old.items lines.new.items) }
+{
     let Answered {
         reply,
         position,
@@ -76,7 +77,7 @@ fn add_report(lines: &mut Vec<Line>, answered: Answered) -> Result<Option<Answer
     } = answered;
     match reply {
         Reply::Report { lines: more, .. } => {
-            add_lines(lines, more)?;
+            push_all(lines, more)?;
             Ok(None)
         }
         reply => Ok(Some(Answered {
@@ -87,9 +88,12 @@ fn add_report(lines: &mut Vec<Line>, answered: Answered) -> Result<Option<Answer
     }
 }
 
-fn add_lines(lines: &mut Vec<Line>, more: List<Line>) -> Result<(), NoMemory> {
-    for line in more.into_vec() {
-        lines.push(line)?;
+/// Puts these behind those.
+fn push_all<T: Drop>(items: &mut Vec<T>, more: List<T>) -> Result<(), NoMemory>
+    ensures { OnOk result (items.new.items ≡ items.old.items ++ more) }
+{
+    for item in more.into_vec() {
+        items.push(item)?;
     }
     Ok(())
 }
