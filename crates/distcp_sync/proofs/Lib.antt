@@ -12,3 +12,8 @@ mod Queued
 pub mod Replied
 pub mod Started
 pub mod Done
+mod PageReplies
+mod PageChains
+mod PageContents
+mod Gots
+mod QueueSteps

@@ -1,8 +1,15 @@
 //! What a plan is made of: the source's report, the listings of its new directories, and the names in both roots.
-ghost use Rattle.std.specs.Prelude.{◌≡◌, ◌<◌, vec_len, vec_capacity};
+ghost use Rattle.std.specs.Prelude.{◌≡◌, ◌++◌, ◌∷◌, [], ◌<◌, length, map, vec_len, vec_capacity, IfOk, OnOk};
+ghost use Rattle.hs_types.specs.declared.ids.Side.TheVariants.{Source};
+ghost use Rattle.hs_types.specs.declared.call.Place.TheVariants as places;
+ghost use Rattle.copy_workers.specs.Calls.{look_at};
+ghost use Rattle.distcp_sync.specs.Told.{answer_at as told_answer, OrNoMemory};
+ghost use Rattle.distcp_sync.specs.inside.Queue.{new_ids};
 ghost use Rattle.distcp_sync.specs.inside.Trace.{IsFetchedWith};
+ghost use Rattle.distcp_sync.specs.inside.Fetching.{begin_report, WasListed, WasNamed, WasReported, IsListCall, IsReportCall, IsRead, IsGotWith, IsNextListed, IsQueueCall, AreAllListed};
 
 use crate::answer::SyncAnswer;
+use crate::answering::answer_at;
 use crate::contents::{Content, joined_items, joined_lines};
 use crate::queue::{add_new, first_ids};
 use crate::start::SyncStart;
@@ -10,8 +17,8 @@ use copy_workers::Look;
 use distcp_plan::Moves;
 use hs_plain::{Listing, RootNames};
 use hs_types::{
-    Answered, Call, CallerId, Duplicate, InodeId, Item, Line, List, ListCursor, Name, NoMemory,
-    PageSize, Place, Refusal, Reply, ReportCursor, Side, SnapId,
+    Answered, CallerId, InodeId, Item, Line, List, ListCursor, Name, NoMemory, PageSize, Place,
+    ReportCursor, Side, SnapId,
 };
 use page_join::{ListStart, NameLink, ReportStart, list_all, report_all};
 use std::alloc::Global;
@@ -41,18 +48,24 @@ pub(crate) fn fetch<L: NameLink>(
     ensures alone { (L.alone source.new ≡ L.alone source.old) × (L.alone target.new ≡ L.alone target.old) }
     ensures stays { (L.stays source.old source.new) × (L.stays target.old target.new) }
     ensures fetched { IsFetchedWith start.now page (L.known source.old) (L.known source.new) (L.known target.old) (L.known target.new) looks.old.items looks.new.items result }
+    ensures same { OnOk result (looks.new ≡ looks.old) }
 {
     let lines = fetch_lines(alloc, start, page, source, looks)?;
-    let roots = fetch_roots(alloc, start, page, source, target, looks)?;
+    let old = Place::Frozen(start.target, start.base);
+    let old_names = fetch_names(alloc, target, Side::Target, old, page, looks)?;
+    let new = Place::Frozen(start.source, start.to);
+    let new_names = fetch_names(alloc, source, Side::Source, new, page, looks)?;
     let listings = fetch_listings(alloc, start.to, page, lines.items(), source, looks)?;
+    let roots = RootNames {
+        target: old_names,
+        source: new_names,
+    };
     Ok(Fetched {
         lines,
         listings,
         roots,
     })
 }
-
-// Open: the helpers below have no contracts yet.
 
 /// The source's report from `from` to `to`.
 fn fetch_lines<L: NameLink>(
@@ -61,16 +74,16 @@ fn fetch_lines<L: NameLink>(
     page: PageSize,
     source: &mut L,
     looks: &mut Vec<Look>,
-) -> Result<List<Line>, SyncAnswer> {
+) -> Result<List<Line>, SyncAnswer>
+    requires room { vec_len looks.old < vec_capacity looks.old }
+    ensures number { L.number source.new ≡ L.number source.old }
+    ensures alone { L.alone source.new ≡ L.alone source.old }
+    ensures stays { L.stays source.old source.new }
+    ensures got { IsGotWith Source (IsReportCall (begin_report start.now) page) (WasReported (length (L.known source.old).seen) (L.known source.new).seen (begin_report start.now)) (L.known source.old) (L.known source.new) looks.old.items looks.new.items result }
+    ensures same { OnOk result (looks.new ≡ looks.old) }
+{
     let caller = source.caller();
-    let cursor = ReportCursor {
-        root: start.source,
-        from: start.from,
-        to: start.to,
-        tick: None,
-        index: 0,
-    };
-    match report_lines(alloc, source, cursor, page) {
+    match report_lines(alloc, source, start, page) {
         Ok(Content::Whole(lines)) => Ok(lines),
         Ok(Content::Ended(reply)) => Err(end_at(Side::Source, caller, reply, looks)),
         Err(NoMemory) => Err(SyncAnswer::NoMemory),
@@ -80,29 +93,26 @@ fn fetch_lines<L: NameLink>(
 fn report_lines<L: NameLink>(
     alloc: Global,
     source: &mut L,
-    cursor: ReportCursor,
+    start: &SyncStart,
     page: PageSize,
-) -> Result<Content<Line>, NoMemory> {
+) -> Result<Content<Line>, NoMemory>
+    ensures number { L.number source.new ≡ L.number source.old }
+    ensures alone { L.alone source.new ≡ L.alone source.old }
+    ensures stays { L.stays source.old source.new }
+    ensures read { IsRead (IsReportCall (begin_report start.now) page) (WasReported (length (L.known source.old).seen) (L.known source.new).seen (begin_report start.now)) (L.known source.old) (L.known source.new) result }
+{
+    let cursor = ReportCursor {
+        root: start.source,
+        from: start.from,
+        to: start.to,
+        tick: None,
+        index: 0,
+    };
     let replies = report_all(alloc, source, ReportStart::Next(cursor), page)?;
     joined_lines(alloc, replies)
 }
 
-/// The names in the target's root at its `from`, and in the source's root at `to`.
-fn fetch_roots<L: NameLink>(
-    alloc: Global,
-    start: &SyncStart,
-    page: PageSize,
-    source: &mut L,
-    target: &mut L,
-    looks: &mut Vec<Look>,
-) -> Result<RootNames, SyncAnswer> {
-    let place = Place::Frozen(start.target, start.base);
-    let target = fetch_names(alloc, target, Side::Target, place, page, looks)?;
-    let place = Place::Frozen(start.source, start.to);
-    let source = fetch_names(alloc, source, Side::Source, place, page, looks)?;
-    Ok(RootNames { target, source })
-}
-
+/// The names in a frozen directory.
 fn fetch_names<L: NameLink>(
     alloc: Global,
     link: &mut L,
@@ -110,7 +120,14 @@ fn fetch_names<L: NameLink>(
     place: Place,
     page: PageSize,
     looks: &mut Vec<Look>,
-) -> Result<List<Name>, SyncAnswer> {
+) -> Result<List<Name>, SyncAnswer>
+    requires room { vec_len looks.old < vec_capacity looks.old }
+    ensures number { L.number link.new ≡ L.number link.old }
+    ensures alone { L.alone link.new ≡ L.alone link.old }
+    ensures stays { L.stays link.old link.new }
+    ensures got { IsGotWith side (IsListCall place page) (WasNamed (length (L.known link.old).seen) (L.known link.new).seen place) (L.known link.old) (L.known link.new) looks.old.items looks.new.items result }
+    ensures same { OnOk result (looks.new ≡ looks.old) }
+{
     let items = fetch_items(alloc, link, side, place, page, looks)?;
     match names_of(alloc, items) {
         Ok(names) => Ok(names),
@@ -118,7 +135,9 @@ fn fetch_names<L: NameLink>(
     }
 }
 
-fn names_of(alloc: Global, items: List<Item>) -> Result<List<Name>, NoMemory> {
+fn names_of(alloc: Global, items: List<Item>) -> Result<List<Name>, NoMemory>
+    ensures { IfOk result (λ names. names ≡ map (λ item. item.name) items) }
+{
     let mut names = Vec::new(alloc);
     for item in items.into_vec() {
         names.push(item.name)?;
@@ -134,7 +153,14 @@ fn fetch_items<L: NameLink>(
     place: Place,
     page: PageSize,
     looks: &mut Vec<Look>,
-) -> Result<List<Item>, SyncAnswer> {
+) -> Result<List<Item>, SyncAnswer>
+    requires room { vec_len looks.old < vec_capacity looks.old }
+    ensures number { L.number link.new ≡ L.number link.old }
+    ensures alone { L.alone link.new ≡ L.alone link.old }
+    ensures stays { L.stays link.old link.new }
+    ensures got { IsGotWith side (IsListCall place page) (WasListed (length (L.known link.old).seen) (L.known link.new).seen place) (L.known link.old) (L.known link.new) looks.old.items looks.new.items result }
+    ensures same { OnOk result (looks.new ≡ looks.old) }
+{
     let caller = link.caller();
     match list_items(alloc, link, place, page) {
         Ok(Content::Whole(items)) => Ok(items),
@@ -148,7 +174,12 @@ fn list_items<L: NameLink>(
     link: &mut L,
     place: Place,
     page: PageSize,
-) -> Result<Content<Item>, NoMemory> {
+) -> Result<Content<Item>, NoMemory>
+    ensures number { L.number link.new ≡ L.number link.old }
+    ensures alone { L.alone link.new ≡ L.alone link.old }
+    ensures stays { L.stays link.old link.new }
+    ensures read { IsRead (IsListCall place page) (WasListed (length (L.known link.old).seen) (L.known link.new).seen place) (L.known link.old) (L.known link.new) result }
+{
     let cursor = ListCursor { place, after: None };
     let replies = list_all(alloc, link, ListStart::Next(cursor), page)?;
     joined_items(alloc, replies)
@@ -162,7 +193,14 @@ fn fetch_listings<L: NameLink>(
     lines: &[Line],
     source: &mut L,
     looks: &mut Vec<Look>,
-) -> Result<List<Listing>, SyncAnswer> {
+) -> Result<List<Listing>, SyncAnswer>
+    requires room { vec_len looks.old < vec_capacity looks.old }
+    ensures number { L.number source.new ≡ L.number source.old }
+    ensures alone { L.alone source.new ≡ L.alone source.old }
+    ensures stays { L.stays source.old source.new }
+    ensures got { IsGotWith Source (IsQueueCall (length (L.known source.old).seen) (L.known source.new).seen to page lines.now) (AreAllListed (length (L.known source.old).seen) (L.known source.new).seen to lines.now) (L.known source.old) (L.known source.new) looks.old.items looks.new.items result }
+    ensures same { OnOk result (looks.new ≡ looks.old) }
+{
     let Ok(moves) = Moves::of(alloc, lines) else {
         return Err(SyncAnswer::NoMemory);
     };
@@ -170,25 +208,50 @@ fn fetch_listings<L: NameLink>(
         return Err(SyncAnswer::NoMemory);
     };
     let mut listings = Vec::new(alloc);
-    // Kept: what is listed behind these listings, from the ids that wait, goes on with them.
     while listings.len() < ids.len() {
         if listings.len() >= MOST_LISTINGS {
             return Err(SyncAnswer::NoMemory);
         }
-        let dir = ids[listings.len()];
-        let items = fetch_items(
+        list_next(
             alloc,
-            source,
-            Side::Source,
-            Place::Frozen(dir, to),
+            to,
             page,
+            &moves,
+            source,
             looks,
+            &mut ids,
+            &mut listings,
         )?;
-        if add_listing(&moves, dir, items, &mut ids, &mut listings).is_err() {
-            return Err(SyncAnswer::NoMemory);
-        }
     }
     Ok(List::of(listings))
+}
+
+/// Lists the first directory that waits. What is new in it waits behind the others.
+fn list_next<'p, L: NameLink>(
+    alloc: Global,
+    to: SnapId,
+    page: PageSize,
+    moves: &Moves<'p>,
+    source: &mut L,
+    looks: &mut Vec<Look>,
+    ids: &mut Vec<InodeId>,
+    listings: &mut Vec<Listing>,
+) -> Result<(), SyncAnswer>
+    requires room { vec_len looks.old < vec_capacity looks.old }
+    requires waits { vec_len listings.old < vec_len ids.old }
+    ensures number { L.number source.new ≡ L.number source.old }
+    ensures alone { L.alone source.new ≡ L.alone source.old }
+    ensures stays { L.stays source.old source.new }
+    ensures listed { IsNextListed to page moves.now (L.known source.old) (L.known source.new) ids.old.items ids.new.items listings.old.items listings.new.items looks.old.items looks.new.items result }
+    ensures same { OnOk result (looks.new ≡ looks.old) }
+{
+    let dir = ids[listings.len()];
+    let place = Place::Frozen(dir, to);
+    let items = fetch_items(alloc, source, Side::Source, place, page, looks)?;
+    match add_listing(moves, dir, items, ids, listings) {
+        Ok(()) => Ok(()),
+        Err(NoMemory) => Err(SyncAnswer::NoMemory),
+    }
 }
 
 fn add_listing<'p>(
@@ -197,7 +260,10 @@ fn add_listing<'p>(
     items: List<Item>,
     ids: &mut Vec<InodeId>,
     listings: &mut Vec<Listing>,
-) -> Result<(), NoMemory> {
+) -> Result<(), NoMemory>
+    ensures ids { OnOk result (ids.new.items ≡ ids.old.items ++ new_ids moves.now items) }
+    ensures listings { OnOk result (listings.new.items ≡ listings.old.items ++ record { dir = dir; items = items } ∷ []) }
+{
     add_new(moves, items.items(), ids)?;
     listings.push(Listing { dir, items })?;
     Ok(())
@@ -206,51 +272,15 @@ fn add_listing<'p>(
 /// Puts the reply that ends the fetching to the looks.
 fn end_at(side: Side, caller: CallerId, reply: Answered, looks: &mut Vec<Look>) -> SyncAnswer
     requires room { vec_len looks.old < vec_capacity looks.old }
+    ensures looks { looks.new.items ≡ looks.old.items ++ look_at side caller reply ∷ [] }
+    ensures answer { OrNoMemory (told_answer (look_at side caller reply)) result }
 {
-    let answer = answer_by(side, &reply);
-    looks.push_reserved(Look {
+    let look = Look {
         side,
         caller,
         reply,
-    });
+    };
+    let answer = answer_at(&look);
+    looks.push_reserved(look);
     answer
-}
-
-/// What a reply that is no Ok reply makes of a sync. A call that can't be copied is want of memory.
-// Open: its contract is `OrNoMemory (answer_at look) result`; calls of reads are handed back where they are refused.
-fn answer_by(side: Side, told: &Answered) -> SyncAnswer {
-    match &told.reply {
-        Reply::Refused(refusal) => refusal_answer(side, told, refusal),
-        _ => SyncAnswer::NoMemory,
-    }
-}
-
-fn refusal_answer(side: Side, told: &Answered, refusal: &Refusal) -> SyncAnswer {
-    match refusal {
-        Refusal::Gone => SyncAnswer::Gone { side },
-        Refusal::StoreFault => SyncAnswer::StoreFault {
-            side,
-            position: told.position,
-        },
-        Refusal::JournalFull => SyncAnswer::JournalFull { side },
-        refusal => refused_answer(told, refusal),
-    }
-}
-
-fn refused_answer(told: &Answered, refusal: &Refusal) -> SyncAnswer {
-    match &told.back {
-        Some(call) => call_answer(call, *refusal, told.position),
-        None => SyncAnswer::NoMemory,
-    }
-}
-
-fn call_answer(call: &Call, refusal: Refusal, position: u64) -> SyncAnswer {
-    match call.copy() {
-        Ok(call) => SyncAnswer::Refused {
-            call,
-            refusal,
-            position,
-        },
-        Err(NoMemory) => SyncAnswer::NoMemory,
-    }
 }
