@@ -2,3 +2,5 @@
 pub mod Trace
 pub mod Queue
 pub mod Runs
+pub mod Tried
+pub mod Ran

@@ -1,5 +1,5 @@
 //! The first steps of a sync: both roots, and whether the target was changed.
-ghost use Rattle.std.specs.Prelude.{◌≡◌, ◌+◌, ◌≤◌, [], vec_len, vec_capacity};
+ghost use Rattle.std.specs.Prelude.{◌≡◌, ◌+◌, ◌<◌, ◌≤◌, [], IfOk, vec_len, vec_capacity};
 ghost use Rattle.distcp_sync.specs.inside.Trace.{IsBegun};
 
 use crate::answer::SyncAnswer;
@@ -26,6 +26,7 @@ pub(crate) fn begin<L: NameLink>(
     ensures alone { (L.alone source.new ≡ L.alone source.old) × (L.alone target.new ≡ L.alone target.old) }
     ensures stays { (L.stays source.old source.new) × (L.stays target.old target.new) }
     ensures begun { IsBegun job.now (L.known source.old) (L.known source.new) (L.known target.old) (L.known target.new) looks.new.items result }
+    ensures room { IfOk result (λ _. vec_len looks.new < vec_capacity looks.new) }
 {
     let one = ask_root(Side::Source, &job.source_root, source, looks)?;
     let two = ask_root(Side::Target, &job.target_root, target, looks)?;

@@ -1,6 +1,7 @@
 //! The moves of a plan, and the delete of its temporary directory.
-ghost use Rattle.std.specs.Prelude.{◌≡◌, ◌<◌, ◌∷◌, [], vec_len, vec_capacity};
-ghost use Rattle.hs_plain.specs.Plan.{last_call};
+ghost use Rattle.std.specs.Prelude.{◌≡◌, ◌<◌, ◌∷◌, [], OnOk, vec_len, vec_capacity};
+ghost use Rattle.hs_plain.specs.Plan.{move_calls, last_call};
+ghost use Rattle.distcp_sync.specs.inside.Tried.{IsTried};
 
 use crate::answer::SyncAnswer;
 use crate::answering::answer_at;
@@ -25,6 +26,11 @@ pub(crate) fn make_moves<L: NameLink>(
     looks: &mut Vec<Look>,
 ) -> Result<(), SyncAnswer>
     requires room { vec_len looks.old < vec_capacity looks.old }
+    ensures number { L.number target.new ≡ L.number target.old }
+    ensures alone { L.alone target.new ≡ L.alone target.old }
+    ensures stays { L.stays target.old target.new }
+    ensures tried { IsTried (L.known target.old) (L.known target.new) (move_calls root.now plan.now) made.old.items made.new.items looks.old.items looks.new.items result }
+    ensures room { OnOk result (vec_len looks.new < vec_capacity looks.new) }
 {
     make_tmp(alloc, root, plan, target, made, looks)?;
     make_outs(alloc, root, plan, target, made, looks)?;
@@ -159,6 +165,11 @@ pub(crate) fn delete_tmp<L: NameLink>(
     looks: &mut Vec<Look>,
 ) -> Result<(), SyncAnswer>
     requires room { vec_len looks.old < vec_capacity looks.old }
+    ensures number { L.number target.new ≡ L.number target.old }
+    ensures alone { L.alone target.new ≡ L.alone target.old }
+    ensures stays { L.stays target.old target.new }
+    ensures tried { IsTried (L.known target.old) (L.known target.new) (last_call root.now plan.now ∷ []) made.old.items made.new.items looks.old.items looks.new.items result }
+    ensures room { OnOk result (vec_len looks.new < vec_capacity looks.new) }
 {
     match tmp_text(alloc, root, &plan.tmp) {
         Ok(path) => {

@@ -1,5 +1,7 @@
 //! A sync through one pair of links.
-ghost use Rattle.std.specs.Prelude.{◌≡◌, ◌+◌, ◌≤◌, ◌<◌, [], vec_len, vec_capacity};
+ghost use Rattle.std.specs.Prelude.{◌≡◌, ◌+◌, ◌≤◌, ◌<◌, [], length, IfOk, IfErr, OnOk, vec_len, vec_capacity};
+ghost use Rattle.distcp_sync.specs.declared.answer.SyncAnswer.TheVariants as answers;
+ghost use Rattle.distcp_sync.specs.inside.Ran.{answer_of, report_of, HasPlan, IsPlanOf, HasCarried};
 ghost use Rattle.distcp_sync.specs.inside.Trace.{IsRun};
 ghost use Rattle.distcp_sync.specs.Calls.{AreSyncCalls};
 ghost use Rattle.distcp_sync.specs.Around.{IsSyncedWithin};
@@ -7,7 +9,8 @@ ghost use Rattle.distcp_sync.specs.Around.{IsSyncedWithin};
 use crate::answer::SyncAnswer;
 use crate::beginning::begin;
 use crate::copying_all::copy_all;
-use crate::fetching::fetch;
+use crate::fetching::{Fetched, fetch};
+use crate::laws::runs_are_told;
 use crate::moving::{delete_tmp, make_moves};
 use crate::report::{SyncJob, SyncReport};
 use crate::start::SyncStart;
@@ -32,10 +35,13 @@ pub fn sync_one<L: NameLink>(
     ensures calls { AreSyncCalls (L.known source.old) (L.known source.new) (L.known target.old) (L.known target.new) result }
     ensures synced { IsSyncedWithin (L.known source.old) (L.known source.new) (L.known target.old) (L.known target.new) job.now result }
 {
+    // Each says that what its link has seen so far is a journal that a namenode may have.
+    source.caller();
+    target.caller();
+    runs_are_told();
     run_sync(alloc, source, target, job)
 }
 
-// Open: `calls` and `synced` above are to come from a law over `IsRun`; the proof of `ran`.
 fn run_sync<L: NameLink>(alloc: Global, source: &mut L, target: &mut L, job: &SyncJob) -> SyncReport
     ensures numbers { (L.number source.new ≡ L.number source.old) × (L.number target.new ≡ L.number target.old) }
     ensures alone { (L.alone source.new ≡ L.alone source.old) × (L.alone target.new ≡ L.alone target.old) }
@@ -45,7 +51,7 @@ fn run_sync<L: NameLink>(alloc: Global, source: &mut L, target: &mut L, job: &Sy
     let mut moves = Vec::new(alloc);
     let mut copies = Vec::new(alloc);
     let mut looks = Vec::new(alloc);
-    let answer = match run(
+    let ended = run(
         alloc,
         source,
         target,
@@ -53,19 +59,23 @@ fn run_sync<L: NameLink>(alloc: Global, source: &mut L, target: &mut L, job: &Sy
         &mut moves,
         &mut copies,
         &mut looks,
-    ) {
-        Ok(()) => SyncAnswer::Done,
-        Err(answer) => answer,
-    };
+    );
     SyncReport {
-        answer,
+        answer: answer_of(ended),
         moves: List::of(moves),
         copies: List::of(copies),
         looks: List::of(looks),
     }
 }
 
-// Open: the contracts of the helpers (the cases of `IsRun`, with what is put behind moves, copies and looks).
+fn answer_of(ended: Result<(), SyncAnswer>) -> SyncAnswer
+    ensures { result ≡ answer_of ended }
+{
+    match ended {
+        Ok(()) => SyncAnswer::Done,
+        Err(answer) => answer,
+    }
+}
 
 fn run<L: NameLink>(
     alloc: Global,
@@ -76,7 +86,13 @@ fn run<L: NameLink>(
     copies: &mut Vec<Copied>,
     looks: &mut Vec<Look>,
 ) -> Result<(), SyncAnswer>
-    requires none { looks.old.items ≡ [] }
+    requires no_moves { moves.old.items ≡ [] }
+    requires no_copies { copies.old.items ≡ [] }
+    requires no_looks { looks.old.items ≡ [] }
+    ensures numbers { (L.number source.new ≡ L.number source.old) × (L.number target.new ≡ L.number target.old) }
+    ensures alone { (L.alone source.new ≡ L.alone source.old) × (L.alone target.new ≡ L.alone target.old) }
+    ensures stays { (L.stays source.old source.new) × (L.stays target.old target.new) }
+    ensures ran { IsRun job.now (L.known source.old) (L.known source.new) (L.known target.old) (L.known target.new) (report_of result moves.new.items copies.new.items looks.new.items) }
 {
     match looks.reserve(4) {
         Ok(()) => run_with_room(alloc, source, target, job, moves, copies, looks),
@@ -94,7 +110,13 @@ fn run_with_room<L: NameLink>(
     looks: &mut Vec<Look>,
 ) -> Result<(), SyncAnswer>
     requires room { vec_len looks.old + 4 ≤ vec_capacity looks.old }
-    requires none { looks.old.items ≡ [] }
+    requires no_moves { moves.old.items ≡ [] }
+    requires no_copies { copies.old.items ≡ [] }
+    requires no_looks { looks.old.items ≡ [] }
+    ensures numbers { (L.number source.new ≡ L.number source.old) × (L.number target.new ≡ L.number target.old) }
+    ensures alone { (L.alone source.new ≡ L.alone source.old) × (L.alone target.new ≡ L.alone target.old) }
+    ensures stays { (L.stays source.old source.new) × (L.stays target.old target.new) }
+    ensures ran { IsRun job.now (L.known source.old) (L.known source.new) (L.known target.old) (L.known target.new) (report_of result moves.new.items copies.new.items looks.new.items) }
 {
     let start = begin(job, source, target, looks)?;
     let plan = planned(alloc, &start, job, source, target, looks)?;
@@ -111,6 +133,7 @@ fn run_with_room<L: NameLink>(
     )
 }
 
+/// Fetches what the plan is made of, and makes it.
 fn planned<L: NameLink>(
     alloc: Global,
     start: &SyncStart,
@@ -120,14 +143,26 @@ fn planned<L: NameLink>(
     looks: &mut Vec<Look>,
 ) -> Result<Plan, SyncAnswer>
     requires room { vec_len looks.old < vec_capacity looks.old }
+    ensures numbers { (L.number source.new ≡ L.number source.old) × (L.number target.new ≡ L.number target.old) }
+    ensures alone { (L.alone source.new ≡ L.alone source.old) × (L.alone target.new ≡ L.alone target.old) }
+    ensures stays { (L.stays source.old source.new) × (L.stays target.old target.new) }
+    ensures plan { HasPlan start.now job.now (L.known source.old) (L.known source.new) (L.known target.old) (L.known target.new) looks.old.items looks.new.items result }
+    ensures room { OnOk result (vec_len looks.new < vec_capacity looks.new) }
 {
     let fetched = fetch(alloc, start, job.page, source, target, looks)?;
+    plan_of(alloc, &fetched, &job.target_root)
+}
+
+/// Makes the plan of what was fetched.
+fn plan_of(alloc: Global, fetched: &Fetched, root: &PathText) -> Result<Plan, SyncAnswer>
+    ensures { IsPlanOf root.now fetched.now result }
+{
     match plan(
         alloc,
         &fetched.lines,
         &fetched.listings,
         &fetched.roots,
-        &job.target_root,
+        root,
     ) {
         Ok(plan) => Ok(plan),
         Err(PlanFault::PathLimit { path }) => Err(SyncAnswer::PathLimit { path }),
@@ -148,6 +183,12 @@ fn carry<L: NameLink>(
     looks: &mut Vec<Look>,
 ) -> Result<(), SyncAnswer>
     requires room { vec_len looks.old < vec_capacity looks.old }
+    requires no_moves { moves.old.items ≡ [] }
+    requires no_copies { copies.old.items ≡ [] }
+    ensures numbers { (L.number source.new ≡ L.number source.old) × (L.number target.new ≡ L.number target.old) }
+    ensures alone { (L.alone source.new ≡ L.alone source.old) × (L.alone target.new ≡ L.alone target.old) }
+    ensures stays { (L.stays source.old source.new) × (L.stays target.old target.new) }
+    ensures carried { HasCarried start.now root.now plan.now (L.known source.old) (L.known source.new) (L.known target.old) (L.known target.new) moves.new.items copies.new.items looks.old.items looks.new.items result }
 {
     make_moves(alloc, root, plan, target, moves, looks)?;
     reserve_copies(plan, copies)?;
@@ -163,7 +204,12 @@ fn carry<L: NameLink>(
     delete_tmp(alloc, root, plan, target, moves, looks)
 }
 
-fn reserve_copies(plan: &Plan, copies: &mut Vec<Copied>) -> Result<(), SyncAnswer> {
+/// Makes room for what becomes of each copy.
+fn reserve_copies(plan: &Plan, copies: &mut Vec<Copied>) -> Result<(), SyncAnswer>
+    ensures same { copies.new.items ≡ copies.old.items }
+    ensures room { OnOk result (vec_len copies.new + length plan.now.copies ≤ vec_capacity copies.new) }
+    ensures wanting { IfErr result (λ answer. answer ≡ answers.NoMemory) }
+{
     match copies.reserve(plan.copies.len()) {
         Ok(()) => Ok(()),
         Err(_) => Err(SyncAnswer::NoMemory),
