@@ -9,6 +9,7 @@ mod Trees
 mod Entered
 mod Runs
 mod Queued
+mod Running
 pub mod Replied
 pub mod Started
 pub mod Done
