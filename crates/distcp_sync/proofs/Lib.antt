@@ -7,6 +7,7 @@ mod Unmade
 mod Fetches
 mod Trees
 mod Entered
+mod Wrote
 mod Runs
 mod Queued
 pub mod Replied
