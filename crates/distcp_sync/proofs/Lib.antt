@@ -8,6 +8,7 @@ mod Fetches
 mod Trees
 mod Entered
 mod Wrote
+mod Firsts
 mod Runs
 mod Queued
 pub mod Replied
