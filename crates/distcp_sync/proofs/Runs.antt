@@ -28,6 +28,7 @@ use Rattle.distcp_sync.proofs.Fetches.{by_look, by_want}
 use Rattle.distcp_sync.proofs.Unmade.{did_fetch, both_then, unmade_calls}
 use Rattle.distcp_sync.proofs.Wrote.{WroteAll}
 use Rattle.distcp_sync.proofs.Firsts.{made_rise}
+use Rattle.distcp_sync.proofs.CopiesWrote.{copies_did}
 
 -- a sync that ends in its first steps
 unbegun_told : (job : SyncJob) (source source_then target target_then : Known) (report : SyncReport) → IsLawful source → IsLawful target →
