@@ -195,7 +195,7 @@ module _ (is_front : CopyOfFrozenIsFront) (tells : Bool) (snap : SnapId) (root :
         (is_front job snap root source source_then target target_then made ended reads writes (bytes job) (length first.seen) of (front_length first.seen source.seen goes.grown)
         (ap (λ (l : List Entry). file_at (plain_after l) (places.Frozen job.id snap)) (seen_first source_then (goes_then first source source_then goes (made_goes source source_then reads of.read))) ∙ file))
 
-    wrote_copy : ended ≡ None → WroteAll (IsFile snap bytes first job) tells (job_calls root bytes job) target target_then made
+    pub wrote_copy : ended ≡ None → WroteAll (IsFile snap bytes first job) tells (job_calls root bytes job) target target_then made
     wrote_copy none = record {
       done = writes;
       wrote = of.written;
@@ -231,9 +231,9 @@ module _ (is_front : CopyOfFrozenIsFront) (tells : Bool) (snap : SnapId) (root :
         IsCut.by_read asked.0.offset
         (subst (λ (c : Call). IsLastLooked Source source source_then c look) (asked.1 ∙ ap (λ (p : Place). calls.ReadNext (record { place = p; offset = asked.0.offset }) 65536) asked.2) looked)
 
-    wrote_cut : (look : Look) → AreCutShort source.caller target.caller reads writes look →
-        (undone : Option Said) × Wrote (IsFile snap bytes first job) tells (job_calls root bytes job) target target_then made undone × IsCut snap job source source_then target target_then look undone × (is_ok_reply look.reply.reply ≡ false) ×
-        IfSome undone (λ last. is_ok_reply last.told.reply ≡ false)
+    pub wrote_cut : (look : Look) → AreCutShort source.caller target.caller reads writes look →
+        (failed : Option Said) × Wrote (IsFile snap bytes first job) tells (job_calls root bytes job) target target_then made failed × IsCut snap job source source_then target target_then look failed × (is_ok_reply look.reply.reply ≡ false) ×
+        IfSome failed (λ last. is_ok_reply last.told.reply ≡ false)
     wrote_cut look (AreCutShort.by_read last well) =
         let asked : ReadsAt (places.Frozen job.id snap) last.last = all_last (ReadsAt (places.Frozen job.id snap)) last.before last.last (subst (AllByRecursion (ReadsAt (places.Frozen job.id snap))) last.all of.asked) in (
           None,

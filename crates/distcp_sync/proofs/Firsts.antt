@@ -77,7 +77,7 @@ left_by false true true m o = refl
 left_by false true false m o = o
 left_by false false ok m o = m
 
-leaves_done : (call : Call) (reply : Reply) → Modifies call → is_ok_reply reply ≡ true → leaves_entry call reply ≡ true
+pub leaves_done : (call : Call) (reply : Reply) → Modifies call → is_ok_reply reply ≡ true → leaves_entry call reply ≡ true
 leaves_done call reply modifies ok = left_by (is_store_fault reply) (is_modifying call) (is_ok_reply reply) modifies ok
 
 -- ---- calls that were done are the first of planned ones

@@ -13,6 +13,8 @@ mod Entered
 mod Wrote
 mod Firsts
 mod CopiesWrote
+mod CopyChain
+mod Written
 mod Runs
 mod Queued
 pub mod Replied

@@ -29,6 +29,8 @@ use Rattle.distcp_sync.proofs.Unmade.{did_fetch, both_then, unmade_calls}
 use Rattle.distcp_sync.proofs.Wrote.{WroteAll}
 use Rattle.distcp_sync.proofs.Firsts.{made_rise}
 use Rattle.distcp_sync.proofs.CopiesWrote.{copies_did}
+use Rattle.distcp_sync.proofs.CopyChain.{AreCut}
+use Rattle.distcp_sync.proofs.Written.{written}
 
 -- a sync that ends in its first steps
 unbegun_told : (job : SyncJob) (source source_then target target_then : Known) (report : SyncReport) → IsLawful source → IsLawful target →

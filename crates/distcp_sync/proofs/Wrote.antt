@@ -26,12 +26,12 @@ pub record WroteAll (If : Type 0) (tells : Bool) (planned : List Call) (old new 
   pub wants : If → claimed_calls tells (calls_of done) ≡ claimed_calls tells planned
 
 -- the first of them were made, and all were done but maybe the last
-pub record Wrote (If : Type 0) (tells : Bool) (planned : List Call) (old new : Known) (made : List Made) (undone : Option Said) : Type 0 where
+pub record Wrote (If : Type 0) (tells : Bool) (planned : List Call) (old new : Known) (made : List Made) (failed : Option Said) : Type 0 where
   pub done : List Said
-  pub wrote : AreMade old new (done ++ option_to_list undone)
+  pub wrote : AreMade old new (done ++ option_to_list failed)
   pub well : AllByRecursion IsDone done
-  pub named : made ≡ filter_map (made_by old.caller) (done ++ option_to_list undone)
-  pub wants : If → IsFront (claimed_calls tells (calls_of (done ++ option_to_list undone))) (claimed_calls tells planned)
+  pub named : made ≡ filter_map (made_by old.caller) (done ++ option_to_list failed)
+  pub wants : If → IsFront (claimed_calls tells (calls_of (done ++ option_to_list failed))) (claimed_calls tells planned)
 
 pub claimed-append : (tells : Bool) (xs ys : List Said) → claimed_calls tells (calls_of (xs ++ ys)) ≡ claimed_calls tells (calls_of xs) ++ claimed_calls tells (calls_of ys)
 claimed-append tells xs ys = ap (claimed_calls tells) (map-append (λ (said : Said). said.call) xs ys) ∙ map-append (claimed_call tells) (calls_of xs) (calls_of ys)
@@ -67,10 +67,10 @@ module _ (If : Type 0) (tells : Bool) (planned further : List Call) (old now new
   }
 
   -- all calls of one plan, and then some of another
-  pub some_then : (undone : Option Said) → WroteAll If tells planned old now made → Wrote If tells further now new more undone → Wrote If tells (planned ++ further) old new (made ++ more) undone
-  some_then undone one two =
-      let tail : List Said = two.done ++ option_to_list undone in
-      let same : one.done ++ tail ≡ (one.done ++ two.done) ++ option_to_list undone = sym (append_assoc one.done two.done (option_to_list undone)) in
+  pub some_then : (failed : Option Said) → WroteAll If tells planned old now made → Wrote If tells further now new more failed → Wrote If tells (planned ++ further) old new (made ++ more) failed
+  some_then failed one two =
+      let tail : List Said = two.done ++ option_to_list failed in
+      let same : one.done ++ tail ≡ (one.done ++ two.done) ++ option_to_list failed = sym (append_assoc one.done two.done (option_to_list failed)) in
       record {
         done = one.done ++ two.done;
         wrote = subst (AreMade old new) same (made_then old now new one.done tail one.wrote two.wrote);
@@ -99,8 +99,8 @@ all_some If tells planned further old new made one =
     }
 
 -- the first of more calls
-pub some_more : (If : Type 0) (tells : Bool) (planned further : List Call) (old new : Known) (made : List Made) (undone : Option Said) → Wrote If tells planned old new made undone → Wrote If tells (planned ++ further) old new made undone
-some_more If tells planned further old new made undone one = record {
+pub some_more : (If : Type 0) (tells : Bool) (planned further : List Call) (old new : Known) (made : List Made) (failed : Option Said) → Wrote If tells planned old new made failed → Wrote If tells (planned ++ further) old new made failed
+some_more If tells planned further old new made failed one = record {
   done = one.done;
   wrote = one.wrote;
   well = one.well;
@@ -108,7 +108,7 @@ some_more If tells planned further old new made undone one = record {
   wants = λ h. record {
     rest = (one.wants h).rest ++ claimed_calls tells further;
     all =
-        sym (append_assoc (claimed_calls tells (calls_of (one.done ++ option_to_list undone))) (one.wants h).rest (claimed_calls tells further))
+        sym (append_assoc (claimed_calls tells (calls_of (one.done ++ option_to_list failed))) (one.wants h).rest (claimed_calls tells further))
         ∙ (ap (λ (l : List Call). l ++ claimed_calls tells further) (one.wants h).all ∙ sym (plans-append tells planned further));
   };
 }
@@ -117,5 +117,5 @@ some_more If tells planned further old new made undone one = record {
 pub all_if : (If Then : Type 0) (tells : Bool) (planned : List Call) (old new : Known) (made : List Made) → (Then → If) → WroteAll If tells planned old new made → WroteAll Then tells planned old new made
 all_if If Then tells planned old new made leads one = record { done = one.done; wrote = one.wrote; well = one.well; named = one.named; wants = λ h. one.wants (leads h) }
 
-pub some_if : (If Then : Type 0) (tells : Bool) (planned : List Call) (old new : Known) (made : List Made) (undone : Option Said) → (Then → If) → Wrote If tells planned old new made undone → Wrote Then tells planned old new made undone
-some_if If Then tells planned old new made undone leads one = record { done = one.done; wrote = one.wrote; well = one.well; named = one.named; wants = λ h. one.wants (leads h) }
+pub some_if : (If Then : Type 0) (tells : Bool) (planned : List Call) (old new : Known) (made : List Made) (failed : Option Said) → (Then → If) → Wrote If tells planned old new made failed → Wrote Then tells planned old new made failed
+some_if If Then tells planned old new made failed leads one = record { done = one.done; wrote = one.wrote; well = one.well; named = one.named; wants = λ h. one.wants (leads h) }
