@@ -23,6 +23,8 @@ use Rattle.distcp_sync.specs.Synced.{First, Second, Third, AfterSecond, AfterThi
 use Rattle.distcp_sync.proofs.SpanCalls.{span-calls, first-calls, next-is}
 use Rattle.distcp_sync.proofs.SpanOwn.{all-mine, last-within, none-faulted, mine-accepted, place-there}
 use Rattle.distcp_sync.proofs.Premised.{IsPremised}
+use Rattle.distcp_sync.proofs.DoneReads.{lines-ok, items-ok, job-file, read-ok}
+use Rattle.distcp_sync.proofs.DonePlan.{next-ok}
 use Rattle.distcp_sync.proofs.Replied.{IsFree, heard-ok}
 use Rattle.distcp_sync.proofs.Started.{TellsRoot, told-root}
 

@@ -12,6 +12,8 @@ mod Queued
 pub mod SpanCalls
 pub mod SpanOwn
 pub mod Premised
+pub mod DoneReads
+pub mod DonePlan
 pub mod Replied
 pub mod Started
 pub mod Done
