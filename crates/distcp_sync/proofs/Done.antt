@@ -20,11 +20,7 @@ use Rattle.distcp_sync.specs.declared.start.SyncStart.{SyncStart}
 use Rattle.distcp_sync.specs.Told.{begun, start_by, if_older, root_answer, answer_by, answer_at, unchanged_call, OrNoMemory}
 use Rattle.distcp_sync.specs.Steps.{SyncSides, state_at, IsHeard}
 use Rattle.distcp_sync.specs.Synced.{First, Second, Third, AfterSecond, AfterThird, ByChange}
-use Rattle.distcp_sync.proofs.SpanCalls.{span-calls, first-calls, next-is}
-use Rattle.distcp_sync.proofs.SpanOwn.{all-mine, last-within, none-faulted, mine-accepted, place-there}
-use Rattle.distcp_sync.proofs.Premised.{IsPremised}
-use Rattle.distcp_sync.proofs.DoneReads.{lines-ok, items-ok, job-file, read-ok}
-use Rattle.distcp_sync.proofs.DonePlan.{next-ok}
+use Rattle.distcp_sync.proofs.DoneWorked.{from-worked}
 use Rattle.distcp_sync.proofs.Replied.{IsFree, heard-ok}
 use Rattle.distcp_sync.proofs.Started.{TellsRoot, told-root}
 

@@ -17,7 +17,7 @@ use Rattle.distcp_sync.proofs.SpanOwn.{all-mine, none-faulted, mine-accepted}
 
 module _ (ask : SyncAsk) (source target : SyncSide) (limits : AreWithinLimit source target) (undisturbed : IsUndisturbed ask source target) (unhindered : IsUnhindered ask source target undisturbed) where
   -- the calls of the premises' plan
-  abbrev plan-is : List Call
+  abbrev pub plan-is : List Call
   plan-is = plan_calls ask.target_root (plan_begun ask (state_before source) (state_before target) undisturbed.begins) undisturbed.begins.to.tree
 
   -- what a sync made, as its report and the target's journal tell it

@@ -16,4 +16,5 @@ pub mod DoneReads
 pub mod DonePlan
 pub mod Replied
 pub mod Started
+pub mod DoneWorked
 pub mod Done

@@ -11,10 +11,12 @@ use Rattle.hs_types.specs.declared.reply.Reply.{Reply}
 use Rattle.hs_types.specs.declared.reply.Reply.TheVariants as replies
 use Rattle.hs_plain.specs.Answer.{Origin, machine, store, limit, memory, origin_of, origin_of_refusal, is_machine, is_store, is_limit, answer, is_ok_reply, is_store_fault, is_modifying, blanked, claimed}
 use Rattle.hs_plain.specs.Change.{is_accepted}
+use Rattle.hs_plain.specs.Joined.{lines_shown}
 use Rattle.hs_plain.specs.Legal.{entry_of, reach_of}
 use Rattle.hs_plain.specs.Premises.{MeetsNoFault, SyncSide}
 use Rattle.hs_plain.proofs.Paged.{observed}
 use Rattle.hs_plain.proofs.ValidShapes.{true_false}
+use Rattle.sync_laws.specs.Lasting.{IsWithin}
 use Rattle.copy_workers.specs.declared.copied.Look.{Look}
 use Rattle.distcp_sync.specs.declared.answer.SyncAnswer.{SyncAnswer}
 use Rattle.distcp_sync.specs.declared.answer.SyncAnswer.TheVariants as answers
@@ -53,6 +55,22 @@ fault-accepted : (b : Bool) → b ≡ true → is_accepted (cond b Faulted Accep
 fault-accepted true e = refl
 fault-accepted false e = absurd (true_false e refl)
 
+behind : (position : ℕ) (left : Bool) → position ≤ position + cond left 1 0
+behind position true = omega arith
+behind position false = omega arith
+
+-- its place is in the span
+pub heard-within : (sides : SyncSides) (side : Side) (call : Call) (look : Look) → IsHeard sides side call look → IsWithin (side_at sides side).span look.reply.position
+heard-within sides side call look heard =
+    let up_to : reach_of call look.reply ≤ (side_at sides side).span.high = heard.to in
+    let above : look.reply.position ≤ reach_of call look.reply = behind look.reply.position (is_store_fault look.reply.reply || (is_modifying call && is_ok_reply look.reply.reply)) in
+    record { from = heard.from; up_to = omega (arith, up_to, above) }
+
+-- the lines of a report are told, whether bytes are told or not
+lines-blanked : (reply : Reply) → lines_shown (blanked reply) ≡ lines_shown reply
+lines-blanked (replies.Report lines next) = refl
+lines-blanked reply = refl
+
 module _ (sides : SyncSides) (side : Side) (call : Call) (look : Look) (heard : IsHeard sides side call look) (free : IsFree (side_at sides side)) where
   -- the plain machine's reply, but for bytes that aren't told, or NoMemory
   pub heard-plainly : (claimed (tells_at sides side) look.reply.reply ≡ claimed (tells_at sides side) (answer (state_at (side_at sides side) look) call)) ⊎ (look.reply.reply ≡ replies.NoMemory)
@@ -70,12 +88,9 @@ module _ (sides : SyncSides) (side : Side) (call : Call) (look : Look) (heard : 
       by limit is =
           let full : look.reply.position ≡ (side_at sides side).limit = (heard.legal.full (ap is_limit is)).at_limit in
           let up_to : reach_of call look.reply ≤ (side_at sides side).span.high = heard.to in
-          let above : look.reply.position ≤ reach_of call look.reply = arith-above in
+          let above : look.reply.position ≤ reach_of call look.reply = behind look.reply.position (is_store_fault look.reply.reply || (is_modifying call && is_ok_reply look.reply.reply)) in
           let room : (side_at sides side).span.high < (side_at sides side).limit = free.room in
           absurd (omega (arith, full, up_to, above, room))
-        where
-          arith-above : look.reply.position ≤ reach_of call look.reply
-          arith-above = elim (is_store_fault look.reply.reply || (is_modifying call && is_ok_reply look.reply.reply)) as (λ b. look.reply.position ≤ look.reply.position + cond b 1 0) [ true ↦ omega arith | false ↦ omega arith ]
       by memory is = inr (no_memory_is look.reply.reply is)
 
   -- an Ok reply where the plain machine gives one, or NoMemory
@@ -93,3 +108,11 @@ module _ (sides : SyncSides) (side : Side) (call : Call) (look : Look) (heard : 
       by : (is_ok_reply look.reply.reply ≡ true) ⊎ (look.reply.reply ≡ replies.NoMemory) → answer_at look ≡ answers.NoMemory
       by (inl so) = absurd (true_false so ends)
       by (inr wants) = ap (Rattle.distcp_sync.specs.Told.answer_by look.side look.reply) wants
+
+  -- an Ok reply has the plain machine's lines
+  pub heard-lines : is_ok_reply look.reply.reply ≡ true → lines_shown look.reply.reply ≡ lines_shown (answer (state_at (side_at sides side) look) call)
+  heard-lines ok = by heard-plainly
+    where
+      by : (claimed (tells_at sides side) look.reply.reply ≡ claimed (tells_at sides side) (answer (state_at (side_at sides side) look) call)) ⊎ (look.reply.reply ≡ replies.NoMemory) → lines_shown look.reply.reply ≡ lines_shown (answer (state_at (side_at sides side) look) call)
+      by (inl same) = observed lines_shown lines-blanked (tells_at sides side) look.reply.reply (answer (state_at (side_at sides side) look) call) same
+      by (inr wants) = absurd (true_false ok (ap is_ok_reply wants))

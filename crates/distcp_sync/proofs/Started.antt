@@ -25,7 +25,7 @@ use Rattle.sync_laws.proofs.Shown.{snaps-shown, snaps-ok}
 use Rattle.copy_workers.specs.declared.copied.Look.{Look}
 use Rattle.distcp_sync.specs.Told.{id_named}
 use Rattle.distcp_sync.specs.Steps.{SyncSides, side_at, tells_at, state_at, IsHeard}
-use Rattle.distcp_sync.proofs.Replied.{IsFree, heard-plainly}
+use Rattle.distcp_sync.proofs.Replied.{IsFree, heard-within, heard-plainly}
 
 -- a list of snapshots is told, whether bytes are told or not
 snaps-claimed : (tells : Bool) (reply : Reply) (dir : InodeId) (items : List SnapItem) → claimed tells reply ≡ claimed tells (replies.Snaps dir items) → reply ≡ replies.Snaps dir items
@@ -51,10 +51,7 @@ module _ (sides : SyncSides) (side : Side) (path : List ℕ) (look : Look) (hear
   here = state_at (side_at sides side) look
 
   within-span : IsWithin (side_at sides side).span look.reply.position
-  within-span =
-      let up_to : reach_of (calls.Snaps path) look.reply ≤ (side_at sides side).span.high = heard.to in
-      let above : look.reply.position ≤ reach_of (calls.Snaps path) look.reply = elim (is_store_fault look.reply.reply || (is_modifying (calls.Snaps path) && is_ok_reply look.reply.reply)) as (λ b. look.reply.position ≤ look.reply.position + cond b 1 0) [ true ↦ omega arith | false ↦ omega arith ] in
-      record { from = heard.from; up_to = omega (arith, up_to, above) }
+  within-span = heard-within sides side (calls.Snaps path) look heard
 
   -- a snapshot that was there when the span began, and stays
   pub member-here : (name : List ℕ) (member : Member (List ℕ)) → member_at (state_before (side_at sides side)) path name ≡ Ok member → Stays (side_at sides side).journal (side_at sides side).span member.snapshot → member_at here path name ≡ Ok member
