@@ -16,11 +16,18 @@ pub fn summary_of(alloc: Global, ran: &Ran, seed: u32) -> Result<List<u8>, NoMem
     ensures { IfOk result (λ text. text ≡ summary_of ran.now seed) }
 {
     let mut out = String::new(alloc);
-    writeln!(out, "gen seed {seed}")?;
+    write_seed(&mut out, seed)?;
     write_side(&mut out, "source", ran.source.items(), &ran.source_end)?;
     write_side(&mut out, "target", ran.target.items(), &ran.target_end)?;
     write_syncs(alloc, &mut out, ran)?;
     Ok(List::of(out.into_bytes()))
+}
+
+fn write_seed(out: &mut String, seed: u32) -> Result<(), NoMemory>
+    ensures { OnOk result (string_bytes out.new ≡ string_bytes out.old ++ ended (spaced (codes "gen seed" ∷ decimal seed ∷ []))) }
+{
+    writeln!(out, "gen seed {seed}")?;
+    Ok(())
 }
 
 /// A namenode: the entries of its journal, the nodes of its live tree, and its live snapshots.
@@ -32,13 +39,9 @@ fn write_side(
 ) -> Result<(), NoMemory>
     ensures { OnOk result (string_bytes out.new ≡ string_bytes out.old ++ ended (side_summary name.now entries.now end.now)) }
 {
-    let nodes = end.tree.len();
+    write!(out, "{name} entries {} ", entries.len())?;
     let snapshots = end.counts.snapshots;
-    writeln!(
-        out,
-        "{name} entries {} nodes {nodes} snapshots {snapshots}",
-        entries.len()
-    )?;
+    writeln!(out, "nodes {} snapshots {snapshots}", end.tree.len())?;
     Ok(())
 }
 
