@@ -2,6 +2,7 @@
 use Rattle.std.specs.Prelude.{◌≡◌, ℕ, ◌+◌, ◌-◌, ◌^◌, min, max, Bool, true, false, ◌&&◌, ◌==◌, nat_le, if◌then◌else◌, List, [], ◌∷◌, ◌++◌, map, Option, Some, None, ⊤}
 use Rattle.std.specs.List.{flat_map}
 use Rattle.hs_types.specs.declared.ids.Side.{Side}
+use Rattle.hs_types.specs.declared.ids.Side.TheVariants.{Source, Target}
 use Rattle.hs_plain.specs.Legal.{Said, reach_of, place_left, number_rises}
 use Rattle.copy_workers.specs.declared.copied.Made.{Made}
 use Rattle.distcp_sync.specs.declared.report.SyncReport.{SyncReport}

@@ -100,7 +100,7 @@ pub record IsLineDone (source_tells target_tells : Bool) (page c : ℕ) (old : W
 
 -- what a sync did that left these numbers of calls
 abbrev pub sync_run : World → SyncReport → List Made → SyncRun
-sync_run new report made = record { report = report; made = made; source_calls = new.source_calls; target_calls = new.target_calls }
+sync_run new report entries = record { report = report; made = entries; source_calls = new.source_calls; target_calls = new.target_calls }
 
 -- a caller made a sync
 pub record IsSyncDone (source_tells target_tells : Bool) (c : ℕ) (old new : World) (job : SyncJob) (report : SyncReport) : Type 0 where

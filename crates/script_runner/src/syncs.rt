@@ -1,5 +1,5 @@
 //! A sync of the target with the source, by one caller of both.
-ghost use Rattle.std.specs.Prelude.{◌≡◌, ◌×◌, is_some};
+ghost use Rattle.std.specs.Prelude.{◌≡◌, is_some};
 ghost use Rattle.hs_types.specs.Limits.{journal_limit};
 ghost use Rattle.namenode_lock.specs.NodeLinks.{known_of, StaysAlone};
 ghost use Rattle.distcp_sync.specs.Calls.{AreSyncCalls};
