@@ -103,11 +103,10 @@ record IsClientFree (c : ℕ) (journal begun old now ended : List Entry) : Type 
   high : IsFree c journal (length now) (length ended)
   next : Stands (c + 1) journal begun now ended
 
-client_free : (tells : Bool) (c : ℕ) (journal begun old ended : List Entry) (client : List Step) (clients : List (List Step)) → Stands c journal begun old ended → (turned : TurnedClients tells c old (client ∷ clients) ended) → IsClientFree c journal begun old turned.0 ended
-client_free tells c journal begun old ended client clients stands turned =
-    let now : List Entry = turned.0 in
-    let mine = stepped_rest tells c old 0 client now turned.1 turned.2 in
-    let later = clients_rest tells (c + 1) now clients ended turned.3 in
+client_free : (tells : Bool) (c : ℕ) (journal begun old now ended : List Entry) (client : List Step) (last : ℕ) (clients : List (List Step)) → Stands c journal begun old ended → AreStepsNext tells c old 0 client now last → TurnedClients tells (c + 1) now clients ended → IsClientFree c journal begun old now ended
+client_free tells c journal begun old now ended client last clients stands stepped turned =
+    let mine = stepped_rest tells c old 0 client now last stepped in
+    let later = clients_rest tells (c + 1) now clients ended turned in
     let whole : journal ≡ (now ++ later.0) ++ stands.rest = sym stands.whole ∙ ap (λ (l : List Entry). l ++ stands.rest) later.1 in
     let first : journal ≡ (begun ++ stands.before) ++ (mine.0 ++ (later.0 ++ stands.rest)) =
     whole ∙ append_assoc now later.0 stands.rest ∙ ap (λ (l : List Entry). l ++ (later.0 ++ stands.rest)) (mine.1 ∙ ap (λ (l : List Entry). l ++ mine.0) stands.old_is)
@@ -210,15 +209,23 @@ module _ (st dt : Bool) (page : ℕ) (source target : List Entry) where
       AreClientSyncs (Did page) (both st dt page source target) c (ends begun) (ends ended) clients
   clients_synced c begun old ended [] ran on_source on_target = tt
   clients_synced c begun old ended (client ∷ clients) ran on_source on_target =
-      let free_source = client_free st c source begun.source old.source ended.source (steps_on Source client) (map (steps_on Source) clients) on_source (source_clients st dt page c old (client ∷ clients) ended ran) in
-      let free_target = client_free dt c target begun.target old.target ended.target (steps_on Target client) (map (steps_on Target) clients) on_target (target_clients st dt page c old (client ∷ clients) ended ran) in (
-        lines_synced st dt page source target c (uncounted old) client ran.0 (ends begun) (ends ended) ran.1
+      let now : World = ran.0 in
+      let free_source =
+      client_free st c source begun.source old.source now.source ended.source (steps_on Source client) now.source_calls (map (steps_on Source) clients) on_source
+      (source_turned st dt page c (uncounted old) client now ran.1) (source_clients st dt page (c + 1) now clients ended ran.2) in
+      let free_target =
+      client_free dt c target begun.target old.target now.target ended.target (steps_on Target client) now.target_calls (map (steps_on Target) clients) on_target
+      (target_turned st dt page c (uncounted old) client now ran.1) (target_clients st dt page (c + 1) now clients ended ran.2) in (
+        lines_synced st dt page source target c (uncounted old) client now (ends begun) (ends ended) ran.1
             (record { source = free_source.front; target = free_target.front }) (record { source = free_source.low; target = free_target.low }) (record { source = free_source.high; target = free_target.high }),
-        clients_synced (c + 1) begun ran.0 ended clients ran.2 free_source.next free_target.next,
+        clients_synced (c + 1) begun now ended clients ran.2 free_source.next free_target.next,
       )
 
-places_are : (a b c d : ℕ) → a ≡ b → c ≡ d → (record { source = a; target = c } : Places) ≡ record { source = b; target = d }
-places_are a b c d one two = ap (λ n. record { source = n; target = c }) one ∙ ap (λ n. record { source = b; target = n }) two
+abbrev places_at : ℕ → ℕ → Places
+places_at a b = record { source = a; target = b }
+
+places_are : (a b c d : ℕ) → a ≡ b → c ≡ d → places_at a c ≡ places_at b d
+places_are a b c d one two = ap (λ n. places_at n c) one ∙ ap (λ n. places_at b n) two
 
 -- all syncs of a run in turn
 pub serial_syncs : (st dt : Bool) (page : ℕ) (runs : Sections LineRun) (source target : List Entry) → IsSerial st dt page runs source target →

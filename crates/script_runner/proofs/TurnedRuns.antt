@@ -190,7 +190,7 @@ side_turn tells steps journal turned =
 
 -- ---- both sides
 
-pub source_side : (st dt : Bool) (page : ℕ) (runs : Sections LineRun) (source target : List Entry) → IsSerial st dt page runs source target → TurnedSide st (steps_to Source runs) source
+abbrev pub source_side : (st dt : Bool) (page : ℕ) (runs : Sections LineRun) (source target : List Entry) → IsSerial st dt page runs source target → TurnedSide st (steps_to Source runs) source
 source_side st dt page runs source target serial =
     record {
       begun = serial.begun.source;
@@ -202,7 +202,7 @@ source_side st dt page runs source target serial =
       finish = subst (λ (j : List Entry). AreStepsNext st 0 serial.ended.source serial.begun.source_calls (steps_on Source runs.finish) j serial.last.source_calls) serial.source_is (source_turned st dt page 0 _ runs.finish serial.last serial.finish);
     }
 
-pub target_side : (st dt : Bool) (page : ℕ) (runs : Sections LineRun) (source target : List Entry) → IsSerial st dt page runs source target → TurnedSide dt (steps_to Target runs) target
+abbrev pub target_side : (st dt : Bool) (page : ℕ) (runs : Sections LineRun) (source target : List Entry) → IsSerial st dt page runs source target → TurnedSide dt (steps_to Target runs) target
 target_side st dt page runs source target serial =
     record {
       begun = serial.begun.target;
