@@ -1,17 +1,22 @@
 -- The first calls of a sync, one by one, are its first steps.
-use Rattle.std.proofs.Common.{◌≡◌, ℕ, Bool, true, false, List, [], ◌∷◌, ◌++◌, Result, Ok, Err, inl, inr, refl, ap, sym, ◌∙◌, subst}
+use Rattle.std.proofs.Common.{◌≡◌, ℕ, Bool, true, false, not, ◌||◌, None, List, [], ◌∷◌, ◌++◌, Result, Ok, Err, inl, inr, refl, ap, sym, ◌∙◌, subst}
 use Rattle.std.specs.Result.{IsErrAnd}
 use Rattle.hs_types.specs.declared.ids.Side.{Side}
 use Rattle.hs_types.specs.declared.ids.Side.TheVariants.{Source, Target}
 use Rattle.hs_types.specs.declared.call.Call.{Call}
 use Rattle.hs_types.specs.declared.call.Call.TheVariants as calls
+use Rattle.hs_types.specs.declared.call.ReportCursor.{ReportCursor}
+use Rattle.hs_types.specs.declared.refusal.Refusal.TheVariants.{Gone, NotSnapshottable, NoSnapshot, Moved}
 use Rattle.hs_types.specs.declared.reply.Answered.{Answered}
 use Rattle.hs_types.specs.declared.reply.Line.{Line}
 use Rattle.hs_types.specs.declared.reply.Reply.{Reply}
 use Rattle.hs_types.specs.declared.reply.Reply.TheVariants as replies
 use Rattle.hs_plain.specs.declared.state.State.{State}
-use Rattle.hs_plain.specs.Asked.{Asked, ◌>>=◌}
-use Rattle.hs_plain.specs.Answer.{answer, reply_to, blanked, is_ok_reply}
+use Rattle.hs_plain.specs.Asked.{Asked, ◌>>=◌, refuse_if}
+use Rattle.hs_plain.specs.State.{is_snapshottable}
+use Rattle.hs_plain.specs.Reading.{is_deleted, is_foreign, has_moved, began_at, report_page, report_next_reply}
+use Rattle.hs_plain.specs.Premises.{now}
+use Rattle.hs_plain.specs.Answer.{reply_to, blanked, is_ok_reply}
 use Rattle.hs_plain.specs.Joined.{lines_shown, is_report}
 use Rattle.page_join.specs.Links.{Known, IsCall}
 use Rattle.copy_workers.specs.declared.copied.Look.{Look}
@@ -84,7 +89,7 @@ module _ (job : SyncJob) (source source_then target target_then : Known) where
 
   -- the looks of both roots
   both_looks : (before now after later more : List Look) (one : Look) → before ≡ [] → now ≡ before ++ later → later ≡ one ∷ [] → after ≡ now ++ more → after ≡ one ∷ more
-  both_looks before now after later more one none first is second = second ∙ ap (λ (looks : List Look). looks ++ more) (first ∙ ap (λ (looks : List Look). looks ++ later) none ∙ is)
+  both_looks before middle after later more one none first is second = second ∙ ap (λ (looks : List Look). looks ++ more) (first ∙ ap (λ (looks : List Look). looks ++ later) none ∙ is)
 
   -- the target's root ended it
   pub ends_second : (before now after : List Look) (left : Root) (answer : SyncAnswer) → before ≡ [] → IsAskedWith Source job.source_root source source_then before now (Ok left) →
@@ -131,18 +136,30 @@ tested : {X : Type 0} (found : Asked X) (next : X → Asked Reply) → ((x : X) 
 tested (Ok x) next rest = rest x
 tested (Err why) next rest = λ e. refl
 
+report_so : (reply : Reply) → is_report reply ≡ true → ReportOrNone reply
+report_so reply is isnt = absurd (apart (sym is ∙ isnt))
+  where
+    apart : true ≡ false → ⊥
+    apart e = cc
+
+next_report : (state : State (List ℕ)) (cursor : ReportCursor) (size : ℕ) → ReportOrNone (reply_to (report_next_reply state cursor size))
+next_report state cursor size =
+    let paged : Asked Reply = Ok (report_page state cursor size) in
+    let still : Asked (Unit {0}) = refuse_if (has_moved state cursor) (Moved (began_at state.tick cursor.tick) state.tick) in
+    let own : Asked (Unit {0}) = refuse_if (is_foreign state cursor.root cursor.from || is_foreign state cursor.root cursor.to) NoSnapshot in
+    let there : Asked (Unit {0}) = refuse_if (not (is_snapshottable state cursor.root)) NotSnapshottable in
+    tested (refuse_if (is_deleted state cursor.from || is_deleted state cursor.to) Gone) (λ x. there >>= λ y. own >>= λ z. still >>= λ w. paged)
+    (λ x. tested there (λ y. own >>= λ z. still >>= λ w. paged) (λ y. tested own (λ z. still >>= λ w. paged) (λ z. tested still (λ w. paged) (λ w. report_so (report_page state cursor size) refl))))
+
 -- any other reply is no Ok reply
 report_or_ended : (start : SyncStart) (old new : Known) (told : Answered) → IsCall old new (unchanged_call start) told → is_report told.reply ≡ false → is_ok_reply told.reply ≡ false
-report_or_ended start = of_kind is_report report-blank (unchanged_call start) (λ state. tested _ _ (λ live. tested _ _ (λ there. tested _ _ (λ own. tested _ _ (λ still. λ e. absurd (cc))))))
+report_or_ended start = of_kind is_report report-blank (unchanged_call start) (λ state. next_report state (record { root = start.target; from = start.base; to = now; tick = None; index = 0 }) 1)
 
 module _ (job : SyncJob) (source source_then target target_now target_then : Known) (start : SyncStart) (one two : Look)
     (roots : AreRoots job source source_then target target_now one two) (is : begun (ask_of job) one.reply.reply two.reply.reply ≡ Ok start) where
   by_lines : (look : Look) (lines : List Line) (answer : SyncAnswer) → IsLookedOk Target target_now target_then (unchanged_call start) look → lines_shown look.reply.reply ≡ lines → Gives (if_unchanged lines) (Err answer) →
       IsBegun job source source_then target target_then (one ∷ two ∷ look ∷ []) (Err answer)
-  by_lines look [] answer done shown gives = absurd (no gives)
-    where
-      no : Err answer ≡ Ok tt → ⊥
-      no e = cc
+  by_lines look [] answer done shown gives = absurd (cc)
   by_lines look (line ∷ lines) answer done shown gives = changed one two look start target_now line lines answer roots is done shown gives
 
   by_report : (look : Look) (report : Bool) (answer : SyncAnswer) → IsLooked Target target_now target_then (unchanged_call start) look → is_report look.reply.reply ≡ report → Gives (if_same look report) (Err answer) →
