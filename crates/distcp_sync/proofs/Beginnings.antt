@@ -3,7 +3,6 @@ use Rattle.std.proofs.Common.{◌≡◌, ℕ, Bool, true, false, not, ◌||◌, 
 use Rattle.std.specs.Result.{IsErrAnd}
 use Rattle.hs_types.specs.declared.ids.Side.{Side}
 use Rattle.hs_types.specs.declared.ids.Side.TheVariants.{Source, Target}
-use Rattle.hs_types.specs.declared.call.Call.{Call}
 use Rattle.hs_types.specs.declared.call.Call.TheVariants as calls
 use Rattle.hs_types.specs.declared.call.ReportCursor.{ReportCursor}
 use Rattle.hs_types.specs.declared.refusal.Refusal.TheVariants.{Gone, NotSnapshottable, NoSnapshot, Moved}
@@ -26,9 +25,9 @@ use Rattle.distcp_sync.specs.declared.answer.SyncAnswer.TheVariants as answers
 use Rattle.distcp_sync.specs.declared.beginning.Root.{Root}
 use Rattle.distcp_sync.specs.declared.report.SyncJob.{SyncJob}
 use Rattle.distcp_sync.specs.declared.start.SyncStart.{SyncStart}
-use Rattle.distcp_sync.specs.Told.{ask_of, begun, start_by, id_named, unchanged_call, root_answer, answer_at, OrNoMemory}
+use Rattle.distcp_sync.specs.Told.{ask_of, begun, start_by, id_named, unchanged_call, root_answer, OrNoMemory}
 use Rattle.distcp_sync.specs.inside.Trace.{IsLooked, IsLookedOk, AreRoots, IsBegun, no_first, bad_first, no_second, bad_second, not_begun, no_third, bad_third, changed, begins}
-use Rattle.distcp_sync.specs.inside.Begins.{Gives, if_unchanged, if_same, IsRoot, IsAsked, unasked, asked, IsAskedWith, IsFound, IsFoundOrEnded, IsCompared, uncompared, compared, IsComparedWith}
+use Rattle.distcp_sync.specs.inside.Begins.{Gives, if_unchanged, if_same, IsAsked, unasked, asked, IsAskedWith, IsFound, IsFoundOrEnded, IsCompared, uncompared, compared, IsComparedWith}
 
 -- a result of an error that came from another
 pub err_at : {A : Type 0} (result : Result A SyncAnswer) (answer : SyncAnswer) (P : Result A SyncAnswer → Type 0) → IsErrAnd result (λ given. given ≡ answer) → P (Err answer) → P result
@@ -53,6 +52,7 @@ record IsToldRoot (side : Side) (path : List ℕ) (old new : Known) (later : Lis
   done : IsLookedOk side old new (calls.Snaps path) look
   reply_is : look.reply.reply ≡ replies.Snaps root.dir root.list
 
+-- a root that was told had its call made and done
 told_root : (side : Side) (path : List ℕ) (old new : Known) (later : List Look) (root : Root) → IsAsked side path old new later (Ok root) → IsToldRoot side path old new later root
 told_root side path old new later root (asked look result looked told) = record { look = look; later_is = refl; done = record { looked = looked; ok = ap is_ok_reply told }; reply_is = told }
 
@@ -62,6 +62,7 @@ told_start : (job : SyncJob) (one two : Reply) (left right : Root) → one ≡ r
 told_start job one two left right e f = ap (λ (reply : Reply). begun (ask_of job) reply two) e ∙ ap (λ (reply : Reply). begun (ask_of job) (replies.Snaps left.dir left.list) reply) f
 
 module _ (job : SyncJob) (source source_then target : Known) where
+  -- the reply of the source's root, or want of memory before it, is the end
   first_ended : (later : List Look) (answer : SyncAnswer) → IsAsked Source job.source_root source source_then later (Err answer) → IsBegun job source source_then target target later (Err answer)
   first_ended later answer (unasked same) = no_first same refl
   first_ended later answer (asked look result looked told) = by (is_ok_reply look.reply.reply) refl
@@ -76,9 +77,11 @@ module _ (job : SyncJob) (source source_then target : Known) where
       subst (λ (looks : List Look). IsBegun job source source_then target target looks (Err answer)) (sym (one.looks ∙ ap (λ (looks : List Look). looks ++ one.later) none)) (first_ended one.later answer one.asked)
 
 module _ (job : SyncJob) (source source_then target target_then : Known) where
+  -- the first steps between these histories
   abbrev Begun : List Look → Result SyncStart SyncAnswer → Type 0
   Begun looks result = IsBegun job source source_then target target_then looks result
 
+  -- and so is that of the target's root
   second_ended : (one : Look) (later : List Look) (answer : SyncAnswer) → IsLookedOk Source source source_then (calls.Snaps job.source_root) one → IsAsked Target job.target_root target target_then later (Err answer) → Begun (one ∷ later) (Err answer)
   second_ended one later answer done (unasked same) = no_second one done same
   second_ended one later answer done (asked look result looked told) = by (is_ok_reply look.reply.reply) refl
@@ -99,6 +102,7 @@ module _ (job : SyncJob) (source source_then target target_then : Known) where
       subst (λ (looks : List Look). Begun looks (Err answer)) (sym (both_looks before now after one.later two.later root.look none one.looks root.later_is two.looks))
       (second_ended root.look two.later answer root.done two.asked)
 
+  -- both replies tell where the sync begins, or why it doesn't
   given : (one two : Look) (expected result : Result SyncStart SyncAnswer) → AreRoots job source source_then target target_then one two → begun (ask_of job) one.reply.reply two.reply.reply ≡ expected → Gives expected result →
       IsFoundOrEnded job source source_then target target_then (one ∷ two ∷ []) result
   given one two (Ok start) result roots is same =
@@ -120,28 +124,33 @@ module _ (job : SyncJob) (source source_then target target_then : Known) where
 
 -- ---- the reply about the target's changes
 
+-- a store that doesn't tell its bytes tells reports
 report-blank : (reply : Reply) → is_report (blanked reply) ≡ is_report reply
 report-blank (replies.Report lines next) = refl
 report-blank reply = refl
 
+-- a report is an Ok reply
 report_ok : (reply : Reply) → is_report reply ≡ true → is_ok_reply reply ≡ true
 report_ok (replies.Report lines next) e = refl
 report_ok reply e = absurd (cc)
 
--- any reply of these tests is a report, or none that is Ok
+-- a report, or no Ok reply
 abbrev ReportOrNone : Reply → Type 0
 ReportOrNone reply = is_report reply ≡ false → is_ok_reply reply ≡ false
 
+-- where the tests behind one give such a reply, so does it
 tested : {X : Type 0} (found : Asked X) (next : X → Asked Reply) → ((x : X) → ReportOrNone (reply_to (next x))) → ReportOrNone (reply_to (found >>= next))
 tested (Ok x) next rest = rest x
 tested (Err why) next rest = λ e. refl
 
+-- a report is such a reply
 report_so : (reply : Reply) → is_report reply ≡ true → ReportOrNone reply
 report_so reply is isnt = absurd (apart (sym is ∙ isnt))
   where
     apart : true ≡ false → ⊥
     apart e = cc
 
+-- and so is the answer to a call for the next page
 next_report : (state : State (List ℕ)) (cursor : ReportCursor) (size : ℕ) → ReportOrNone (reply_to (report_next_reply state cursor size))
 next_report state cursor size =
     let paged : Asked Reply = Ok (report_page state cursor size) in
@@ -157,31 +166,37 @@ report_or_ended start = of_kind is_report report-blank (unchanged_call start) (�
 
 module _ (job : SyncJob) (source source_then target target_now target_then : Known) (start : SyncStart) (one two : Look)
     (roots : AreRoots job source source_then target target_now one two) (is : begun (ask_of job) one.reply.reply two.reply.reply ≡ Ok start) where
+  -- a line was told
   by_lines : (look : Look) (lines : List Line) (answer : SyncAnswer) → IsLookedOk Target target_now target_then (unchanged_call start) look → lines_shown look.reply.reply ≡ lines → Gives (if_unchanged lines) (Err answer) →
       IsBegun job source source_then target target_then (one ∷ two ∷ look ∷ []) (Err answer)
   by_lines look [] answer done shown gives = absurd (cc)
   by_lines look (line ∷ lines) answer done shown gives = changed one two look start target_now line lines answer roots is done shown gives
 
+  -- a report with lines, or a reply that is none
   by_report : (look : Look) (report : Bool) (answer : SyncAnswer) → IsLooked Target target_now target_then (unchanged_call start) look → is_report look.reply.reply ≡ report → Gives (if_same look report) (Err answer) →
       IsBegun job source source_then target target_then (one ∷ two ∷ look ∷ []) (Err answer)
   by_report look true answer looked e gives = by_lines look (lines_shown look.reply.reply) answer (record { looked = looked; ok = report_ok look.reply.reply e }) refl gives
   by_report look false answer looked e gives = bad_third one two look start target_now answer roots is (record { looked = looked; bad = report_or_ended start target_now target_then look.reply looked.called e }) gives
 
+  -- the reply about the changes, or want of memory before it, is the end
   third_ended : (later : List Look) (answer : SyncAnswer) → IsCompared start target_now target_then later (Err answer) → IsBegun job source source_then target target_then (one ∷ two ∷ later) (Err answer)
   third_ended later answer (uncompared same) = no_third one two (subst (λ (now : Known). AreRoots job source source_then target now one two) (sym same) roots)
   third_ended later answer (compared look result looked gives) = by_report look (is_report look.reply.reply) answer looked refl gives
 
+  -- a report without lines
   same_report : (look : Look) (report : Bool) (lines : List Line) → IsLooked Target target_now target_then (unchanged_call start) look → is_report look.reply.reply ≡ report → lines_shown look.reply.reply ≡ lines → Gives (if_same look report) (Ok tt) →
       IsBegun job source source_then target target_then (one ∷ two ∷ look ∷ []) (Ok start)
   same_report look false lines looked e shown gives = absurd gives
   same_report look true [] looked e shown gives = begins one two look start target_now roots is (record { looked = looked; ok = report_ok look.reply.reply e }) shown
   same_report look true (line ∷ lines) looked e shown gives = absurd (subst (λ (shown : List Line). Gives (if_unchanged shown) (Ok tt)) shown gives)
 
+  -- nothing was changed
   third_same : (later : List Look) → IsCompared start target_now target_then later (Ok tt) → IsBegun job source source_then target target_then (one ∷ two ∷ later) (Ok start)
   third_same later (compared look result looked gives) = same_report look (is_report look.reply.reply) (lines_shown look.reply.reply) looked refl refl gives
 
 -- where the sync begins, the looks are those of both roots and what came later
 module _ (job : SyncJob) (source source_then target target_now target_then : Known) (now after : List Look) (start : SyncStart) (found : IsFound job source source_then target target_now now start) where
+  -- the looks, one by one
   all_looks : (later : List Look) → after ≡ now ++ later → after ≡ found.one ∷ found.two ∷ later
   all_looks later is = is ∙ ap (λ (looks : List Look). looks ++ later) found.looks_are
 

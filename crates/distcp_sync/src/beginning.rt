@@ -1,10 +1,9 @@
 //! The first steps of a sync: both roots, and whether the target was changed.
 ghost use Rattle.std.specs.Prelude.{◌≡◌, ◌+◌, ◌≤◌, ◌<◌, [], vec_len, vec_capacity, IfOk};
-ghost use Rattle.hs_types.specs.declared.call.Call.TheVariants as calls;
+ghost use Rattle.hs_plain.specs.Joined.{is_report};
 ghost use Rattle.distcp_sync.specs.Told.{ask_of, id_named, start_by};
 ghost use Rattle.distcp_sync.specs.inside.Trace.{IsBegun, IsLooked};
 ghost use Rattle.distcp_sync.specs.inside.Begins.{Gives, if_named, if_unchanged, if_same, IsRoot, IsAskedWith, IsFoundOrEnded, IsComparedWith};
-ghost use Rattle.hs_plain.specs.Joined.{is_report};
 
 use crate::answer::SyncAnswer;
 use crate::answering::answer_at;

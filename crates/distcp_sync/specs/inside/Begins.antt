@@ -1,7 +1,7 @@
 -- The first calls of a sync, one by one. For proofs and private contracts alone.
 use Rattle.std.specs.Prelude.{◌≡◌, ℕ, Bool, true, false, List, [], ◌∷◌, ◌++◌, Option, Some, None, Result, Ok, Err}
 use Rattle.hs_types.specs.declared.ids.Side.{Side}
-use Rattle.hs_types.specs.declared.ids.Side.TheVariants.{Source, Target}
+use Rattle.hs_types.specs.declared.ids.Side.TheVariants.{Target}
 use Rattle.hs_types.specs.declared.ids.SnapId.{SnapId}
 use Rattle.hs_types.specs.declared.call.Call.TheVariants as calls
 use Rattle.hs_types.specs.declared.reply.Line.{Line}
@@ -16,7 +16,7 @@ use Rattle.distcp_sync.specs.declared.beginning.Root.{Root}
 use Rattle.distcp_sync.specs.declared.report.SyncJob.{SyncJob}
 use Rattle.distcp_sync.specs.declared.start.SyncStart.{SyncStart}
 use Rattle.distcp_sync.specs.Told.{ask_of, begun, unchanged_call, root_answer, answer_at, OrNoMemory}
-use Rattle.distcp_sync.specs.inside.Trace.{IsLooked, IsLookedOk, IsLookedBad, AreRoots, IsBegun}
+use Rattle.distcp_sync.specs.inside.Trace.{IsLooked, AreRoots, IsBegun}
 
 -- ---- outcomes
 

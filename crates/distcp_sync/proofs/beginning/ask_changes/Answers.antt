@@ -15,6 +15,6 @@ returns-in-Some-clause-compared g c =
       later = c.ask-look.result ∷ [];
       looks = c.push_reserved.ensures.items;
       compared = compared c.ask-look.result c.is_unchanged-unchanged.result
-      (subst (λ (size : ℕ). IsLooked Target old new (calls.ReportNext (record { root = start.target; from = start.base; to = now; tick = None; index = 0 }) size) c.ask-look.result) c.in-Some.ensures.in_range.0 c.ask-look.ensures.looked)
-      c.is_unchanged-unchanged.ensures;
+          (subst (λ (size : ℕ). IsLooked Target old new (calls.ReportNext (record { root = start.target; from = start.base; to = now; tick = None; index = 0 }) size) c.ask-look.result) c.in-Some.ensures.in_range.0 c.ask-look.ensures.looked)
+          c.is_unchanged-unchanged.ensures;
     }
