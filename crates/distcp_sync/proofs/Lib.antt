@@ -13,3 +13,4 @@ pub mod Replied
 pub mod Started
 pub mod Done
 mod Tries
+mod CopiesSoFar

@@ -13,7 +13,7 @@ returns-in_err-make_tmp-clause-tried g c =
     let plan = c.args.plan.now in
     ends_with c.from_residual.result c.in_err-make_tmp.field-0.0 (IsTried first then (move_calls root plan) c.args.made.now.items c.make_tmp.new.made.items c.args.looks.now.items c.make_tmp.new.looks.items) c.from_residual.ensures.1
     (tries_ended first then (calls.Mkdir (text_below root (plan.tmp ∷ [])) ∷ []) (out_calls root plan 0 plan.outs ++ map (put_call root plan) plan.puts)
-        c.args.made.now.items c.make_tmp.new.made.items c.args.looks.now.items c.make_tmp.new.looks.items c.in_err-make_tmp.field-0.0 c.in_err-make_tmp.ensures.tried)
+    c.args.made.now.items c.make_tmp.new.made.items c.args.looks.now.items c.make_tmp.new.looks.items c.in_err-make_tmp.field-0.0 c.in_err-make_tmp.ensures.tried)
 
 pub returns-in_err-make_outs-clause-tried : goal.returns-in_err-make_outs-clause-tried
 returns-in_err-make_outs-clause-tried g c =
@@ -26,8 +26,8 @@ returns-in_err-make_outs-clause-tried g c =
     let puts = map (put_call root plan) plan.puts in
     ends_with c.from_residual-in_err-make_outs.result c.in_err-make_outs.field-0.0 (IsTried first then (move_calls root plan) c.args.made.now.items c.make_outs.new.made.items c.args.looks.now.items c.make_outs.new.looks.items) c.from_residual-in_err-make_outs.ensures.1
     (tries_then first now then (calls.Mkdir (text_below root (plan.tmp ∷ [])) ∷ []) (outs ++ puts)
-        c.args.made.now.items c.make_tmp.new.made.items c.make_outs.new.made.items c.args.looks.now.items c.make_tmp.new.looks.items c.make_outs.new.looks.items (Err c.in_err-make_outs.field-0.0) c.in_ok-make_tmp.ensures.tried
-        (tries_ended now then outs puts c.make_tmp.new.made.items c.make_outs.new.made.items c.make_tmp.new.looks.items c.make_outs.new.looks.items c.in_err-make_outs.field-0.0 c.in_err-make_outs.ensures.tried))
+    c.args.made.now.items c.make_tmp.new.made.items c.make_outs.new.made.items c.args.looks.now.items c.make_tmp.new.looks.items c.make_outs.new.looks.items (Err c.in_err-make_outs.field-0.0) c.in_ok-make_tmp.ensures.tried
+    (tries_ended now then outs puts c.make_tmp.new.made.items c.make_outs.new.made.items c.make_tmp.new.looks.items c.make_outs.new.looks.items c.in_err-make_outs.field-0.0 c.in_err-make_outs.ensures.tried))
 
 pub returns-clause-tried : goal.returns-clause-tried
 returns-clause-tried g c =
@@ -40,6 +40,6 @@ returns-clause-tried g c =
     let outs = out_calls root plan 0 plan.outs in
     let puts = map (put_call root plan) plan.puts in
     tries_then first now last (calls.Mkdir (text_below root (plan.tmp ∷ [])) ∷ []) (outs ++ puts)
-        c.args.made.now.items c.make_tmp.new.made.items c.make_puts.new.made.items c.args.looks.now.items c.make_tmp.new.looks.items c.make_puts.new.looks.items c.make_puts.result c.in_ok-make_tmp.ensures.tried
-        (tries_then now then last outs puts c.make_tmp.new.made.items c.make_outs.new.made.items c.make_puts.new.made.items c.make_tmp.new.looks.items c.make_outs.new.looks.items c.make_puts.new.looks.items c.make_puts.result
-            c.in_ok-make_outs.ensures.tried c.make_puts.ensures.tried)
+    c.args.made.now.items c.make_tmp.new.made.items c.make_puts.new.made.items c.args.looks.now.items c.make_tmp.new.looks.items c.make_puts.new.looks.items c.make_puts.result c.in_ok-make_tmp.ensures.tried
+    (tries_then now then last outs puts c.make_tmp.new.made.items c.make_outs.new.made.items c.make_puts.new.made.items c.make_tmp.new.looks.items c.make_outs.new.looks.items c.make_puts.new.looks.items c.make_puts.result
+    c.in_ok-make_outs.ensures.tried c.make_puts.ensures.tried)

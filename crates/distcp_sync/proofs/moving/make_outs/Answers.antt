@@ -35,8 +35,8 @@ returns-in_err-make_out-clause-tried g c =
     let step = calls.Rename (text_below root c.path-item.result) (text_below root (out_place plan i)) ∷ [] in
     let left = out_calls root plan (i + 1) (drop (i + 1) those) in
     let up : IsDoneUpTo first now whole (step ++ left) c.args.made.now.items c.loop-index.made.items c.args.looks.now.items c.loop-index.looks.items =
-        subst (λ (l : List Names). IsDoneUpTo first now whole (out_calls root plan i l) c.args.made.now.items c.loop-index.made.items c.args.looks.now.items c.loop-index.looks.items)
-        (next those i c.path-item.result c.loop-index-test.true c.path-item.is) c.loop-index.invariant.done in
+    subst (λ (l : List Names). IsDoneUpTo first now whole (out_calls root plan i l) c.args.made.now.items c.loop-index.made.items c.args.looks.now.items c.loop-index.looks.items)
+    (next those i c.path-item.result c.loop-index-test.true c.path-item.is) c.loop-index.invariant.done in
     ends_with c.from_residual.result c.in_err-make_out.field-0.0 (IsTried first then whole c.args.made.now.items c.make_out.new.made.items c.args.looks.now.items c.make_out.new.looks.items) c.from_residual.ensures.1
     (upto_ended first now then whole step left c.args.made.now.items c.loop-index.made.items c.make_out.new.made.items c.args.looks.now.items c.loop-index.looks.items c.make_out.new.looks.items c.in_err-make_out.field-0.0 up c.in_err-make_out.ensures.tried)
 
@@ -53,8 +53,8 @@ loop-index-preserved g c =
     let step = calls.Rename (text_below root c.path-item.result) (text_below root (out_place plan i)) ∷ [] in
     let left = out_calls root plan (i + 1) (drop (i + 1) those) in
     let up : IsDoneUpTo first now whole (step ++ left) c.args.made.now.items c.loop-index.made.items c.args.looks.now.items c.loop-index.looks.items =
-        subst (λ (l : List Names). IsDoneUpTo first now whole (out_calls root plan i l) c.args.made.now.items c.loop-index.made.items c.args.looks.now.items c.loop-index.looks.items)
-        (next those i c.path-item.result c.loop-index-test.true c.path-item.is) c.loop-index.invariant.done in
+    subst (λ (l : List Names). IsDoneUpTo first now whole (out_calls root plan i l) c.args.made.now.items c.loop-index.made.items c.args.looks.now.items c.loop-index.looks.items)
+    (next those i c.path-item.result c.loop-index-test.true c.path-item.is) c.loop-index.invariant.done in
     record {
       number = c.make_out.ensures.number ∙ c.loop-index.invariant.number;
       alone = c.make_out.ensures.alone ∙ c.loop-index.invariant.alone;

@@ -34,8 +34,8 @@ returns-in_err-make_put-clause-tried g c =
     let step = put_call root plan c.put-item.result ∷ [] in
     let left = map (put_call root plan) (drop (i + 1) those) in
     let up : IsDoneUpTo first now whole (step ++ left) c.args.made.now.items c.loop-put.made.items c.args.looks.now.items c.loop-put.looks.items =
-        subst (λ (l : List Put). IsDoneUpTo first now whole (map (put_call root plan) l) c.args.made.now.items c.loop-put.made.items c.args.looks.now.items c.loop-put.looks.items)
-        (next those i c.put-item.result c.loop-put-test.true c.put-item.is) c.loop-put.invariant.done in
+    subst (λ (l : List Put). IsDoneUpTo first now whole (map (put_call root plan) l) c.args.made.now.items c.loop-put.made.items c.args.looks.now.items c.loop-put.looks.items)
+    (next those i c.put-item.result c.loop-put-test.true c.put-item.is) c.loop-put.invariant.done in
     ends_with c.from_residual.result c.in_err-make_put.field-0.0 (IsTried first then whole c.args.made.now.items c.make_put.new.made.items c.args.looks.now.items c.make_put.new.looks.items) c.from_residual.ensures.1
     (upto_ended first now then whole step left c.args.made.now.items c.loop-put.made.items c.make_put.new.made.items c.args.looks.now.items c.loop-put.looks.items c.make_put.new.looks.items c.in_err-make_put.field-0.0 up c.in_err-make_put.ensures.tried)
 
@@ -52,8 +52,8 @@ loop-put-preserved g c =
     let step = put_call root plan c.put-item.result ∷ [] in
     let left = map (put_call root plan) (drop (i + 1) those) in
     let up : IsDoneUpTo first now whole (step ++ left) c.args.made.now.items c.loop-put.made.items c.args.looks.now.items c.loop-put.looks.items =
-        subst (λ (l : List Put). IsDoneUpTo first now whole (map (put_call root plan) l) c.args.made.now.items c.loop-put.made.items c.args.looks.now.items c.loop-put.looks.items)
-        (next those i c.put-item.result c.loop-put-test.true c.put-item.is) c.loop-put.invariant.done in
+    subst (λ (l : List Put). IsDoneUpTo first now whole (map (put_call root plan) l) c.args.made.now.items c.loop-put.made.items c.args.looks.now.items c.loop-put.looks.items)
+    (next those i c.put-item.result c.loop-put-test.true c.put-item.is) c.loop-put.invariant.done in
     record {
       number = c.make_put.ensures.number ∙ c.loop-put.invariant.number;
       alone = c.make_put.ensures.alone ∙ c.loop-put.invariant.alone;
