@@ -17,7 +17,7 @@ module _ (snap : SnapId) (root : List ℕ) where
       AreCopied snap root first front source source_now target target_now whole None → AreCopied snap root (first + length front) jobs source_now source_then target_now target_then more ended →
       AreCopied snap root first (front ++ jobs) source source_then target target_then (whole ++ more) ended
   copied_then first front jobs s sn st t tn tt' whole more ended (all number source target) behind = subst (λ (n : ℕ). AreCopied snap root n jobs sn st tn tt' more ended) (omega arith) behind
-  copied_then first front jobs s sn st t tn tt' whole more ended (next number job rest source sm source_then target tm target_then copied others none copy well before) behind =
+  copied_then first front jobs s sn st t tn tt' whole more ended (next number job rest source sm source_then target tm target_then copied others ended_not copy well before) behind =
       next number job (rest ++ jobs) s sm st t tm tt' copied (others ++ more) ended copy well
       (copied_then (number + 1) rest jobs sm sn st tm tn tt' others more ended before (subst (λ (n : ℕ). AreCopied snap root n jobs sn st tn tt' more ended) (omega arith) behind))
 
@@ -64,14 +64,14 @@ module _ (snap : SnapId) (root : List ℕ) where
     }
 
     pub copies_more : EndsBy copied.ended (Ok tt) → AreCopiedUpTo snap root first (number + 1) whole left source source_then target target_then before after
-    copies_more ends = whole_more (by copied.ended ends)
+    copies_more told = whole_more (by copied.ended told)
       where
         by : (ended : Option Look) → EndsBy ended (Ok tt) → ended ≡ None
         by None e = refl
         by (Some look) e = absurd e
 
     pub copies_ended : (answer : SyncAnswer) → EndsBy copied.ended (Err answer) → AreCopiedWith snap root first whole source source_then target target_then before after (Err answer)
-    copies_ended answer ends = by copied.ended refl ends
+    copies_ended answer told = by copied.ended refl told
       where
         by : (ended : Option Look) → copied.ended ≡ ended → EndsBy ended (Err answer) → AreCopiedWith snap root first whole source source_then target target_then before after (Err answer)
         by None is e = absurd (cc)

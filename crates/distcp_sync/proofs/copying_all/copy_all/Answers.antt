@@ -20,11 +20,10 @@ loop-number-init g c =
     }
 
 pub returns-in_err-note_copy-clause-stays : goal.returns-in_err-note_copy-clause-stays
-returns-in_err-note_copy-clause-stays g c =
-    (
-      g.met.L.NameLink.stays_then c.args.source.now c.loop-number.source c.copy_one-copied.new.source c.loop-number.invariant.source_stays c.copy_one-copied.ensures.stays.0,
-      g.met.L.NameLink.stays_then c.args.target.now c.loop-number.target c.copy_one-copied.new.target c.loop-number.invariant.target_stays c.copy_one-copied.ensures.stays.1,
-    )
+returns-in_err-note_copy-clause-stays g c = (
+  g.met.L.NameLink.stays_then c.args.source.now c.loop-number.source c.copy_one-copied.new.source c.loop-number.invariant.source_stays c.copy_one-copied.ensures.stays.0,
+  g.met.L.NameLink.stays_then c.args.target.now c.loop-number.target c.copy_one-copied.new.target c.loop-number.invariant.target_stays c.copy_one-copied.ensures.stays.1,
+)
 
 pub returns-in_err-note_copy-clause-copied : goal.returns-in_err-note_copy-clause-copied
 returns-in_err-note_copy-clause-copied g c =
@@ -41,10 +40,10 @@ returns-in_err-note_copy-clause-copied g c =
     let job = c.index-jobs-number.result in
     let left = drop (i + 1) jobs in
     let up : AreCopiedUpTo snap root 0 i jobs (job ∷ left) first now target target_now c.args.copies.now.items c.loop-number.copies.items =
-        subst (λ (l : List CopyJob). AreCopiedUpTo snap root 0 i jobs l first now target target_now c.args.copies.now.items c.loop-number.copies.items) (next jobs i job c.loop-number-test.true c.index-jobs-number.is) c.loop-number.invariant.copied in
+    subst (λ (l : List CopyJob). AreCopiedUpTo snap root 0 i jobs l first now target target_now c.args.copies.now.items c.loop-number.copies.items) (next jobs i job c.loop-number-test.true c.index-jobs-number.is) c.loop-number.invariant.copied in
     ends_with c.from_residual.result c.in_err-note_copy.field-0.0 (AreCopiedWith snap root 0 jobs first then target target_then c.args.copies.now.items c.note_copy.new.copies.items) c.from_residual.ensures.1
     (copies_ended snap root 0 i jobs left job first now then target target_now target_then c.args.copies.now.items c.loop-number.copies.items c.note_copy.new.copies.items c.copy_one-copied.result up c.copy_one-copied.ensures.copy c.note_copy.ensures.items
-        c.in_err-note_copy.field-0.0 c.in_err-note_copy.ensures.ends)
+    c.in_err-note_copy.field-0.0 c.in_err-note_copy.ensures.ends)
 
 pub loop-number-preserved : goal.loop-number-preserved
 loop-number-preserved g c =
@@ -62,7 +61,7 @@ loop-number-preserved g c =
     let left = drop (i + 1) jobs in
     let stepped = next jobs i job c.loop-number-test.true c.index-jobs-number.is in
     let up : AreCopiedUpTo snap root 0 i jobs (job ∷ left) first now target target_now c.args.copies.now.items c.loop-number.copies.items =
-        subst (λ (l : List CopyJob). AreCopiedUpTo snap root 0 i jobs l first now target target_now c.args.copies.now.items c.loop-number.copies.items) stepped c.loop-number.invariant.copied in
+    subst (λ (l : List CopyJob). AreCopiedUpTo snap root 0 i jobs l first now target target_now c.args.copies.now.items c.loop-number.copies.items) stepped c.loop-number.invariant.copied in
     record {
       source_number = c.copy_one-copied.ensures.numbers.0 ∙ c.loop-number.invariant.source_number;
       target_number = c.copy_one-copied.ensures.numbers.1 ∙ c.loop-number.invariant.target_number;
