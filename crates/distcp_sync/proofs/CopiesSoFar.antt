@@ -1,5 +1,5 @@
 -- Copies of jobs, one after the other.
-use Rattle.std.proofs.Common.{◌≡◌, ℕ, ◌+◌, Option, Some, None, Ok, Err, Result, List, [], ◌∷◌, ◌++◌, length, refl, ap, sym, ◌∙◌, subst, append-nil, append_assoc, length-append, arith}
+use Rattle.std.proofs.Common.{◌≡◌, ℕ, ◌+◌, Option, Some, None, Ok, Err, List, [], ◌∷◌, ◌++◌, length, refl, ap, sym, ◌∙◌, subst, append-nil, append_assoc, length-append, arith}
 use Rattle.hs_types.specs.declared.ids.SnapId.{SnapId}
 use Rattle.hs_plain.specs.declared.plan.CopyJob.{CopyJob}
 use Rattle.page_join.specs.Links.{Known}
@@ -76,13 +76,3 @@ module _ (snap : SnapId) (root : List ℕ) where
         by : (ended : Option Look) → copied.ended ≡ ended → EndsBy ended (Err answer) → AreCopiedWith snap root first whole source source_then target target_then before after (Err answer)
         by None is e = absurd (cc)
         by (Some look) is e = ended_more look answer is e
-
-  pub copies_all : (first number : ℕ) (whole : List CopyJob) (source source_then target target_then : Known) (before after : List Copied) → AreCopiedUpTo snap root first number whole [] source source_then target target_then before after →
-      AreCopiedWith snap root first whole source source_then target target_then before after (Ok tt)
-  copies_all first number whole source source_then target target_then before after up = record {
-    more = up.more;
-    ended = None;
-    copies_are = up.copies_are;
-    copied = subst (λ (jobs : List CopyJob). AreCopied snap root first jobs source source_then target target_then up.more None) (sym (up.all ∙ append-nil up.front)) up.copied;
-    ends = refl;
-  }

@@ -1,5 +1,5 @@
 -- Calls of a plan that are tried one after the other.
-use Rattle.std.proofs.Common.{◌≡◌, ℕ, true, false, Option, Some, None, Ok, Err, Result, List, [], ◌∷◌, ◌++◌, map, refl, ap, sym, ◌∙◌, subst, inl, inr, append-nil, append_assoc}
+use Rattle.std.proofs.Common.{◌≡◌, true, false, Option, Some, None, Ok, Err, Result, List, [], ◌∷◌, ◌++◌, map, refl, ap, sym, ◌∙◌, subst, append-nil, append_assoc}
 use Rattle.std.specs.Option.{option_to_list}
 use Rattle.std.specs.Result.{IsErrAnd}
 use Rattle.std.specs.List.{filter_map, cons_option, AllByRecursion}
@@ -12,7 +12,6 @@ use Rattle.hs_types.specs.declared.reply.Answered.{Answered}
 use Rattle.hs_plain.specs.Answer.{is_ok_reply}
 use Rattle.hs_plain.specs.Legal.{Said}
 use Rattle.page_join.specs.Links.{Known, said_by}
-use Rattle.page_join.specs.Made.{AreMade}
 use Rattle.page_join.proofs.Chains.{made_then}
 use Rattle.copy_workers.specs.declared.copied.Made.{Made}
 use Rattle.copy_workers.specs.declared.copied.Look.{Look}
@@ -177,10 +176,6 @@ pub upto_ended : (old now new : Known) (whole step left : List Call) (made0 made
 upto_ended old now new whole step left made0 made1 made2 looks0 looks1 looks2 answer up one =
     subst (λ (calls : List Call). IsTried old new calls made0 made2 looks0 looks2 (Err answer)) (sym up.all)
     (tries_then old now new up.front (step ++ left) made0 made1 made2 looks0 looks1 looks2 (Err answer) up.tried (tries_ended now new step left made1 made2 looks1 looks2 answer one))
-
-pub upto_all : (old new : Known) (whole : List Call) (before after : List Made) (looked looks : List Look) → IsDoneUpTo old new whole [] before after looked looks → IsTried old new whole before after looked looks (Ok tt)
-upto_all old new whole before after looked looks up =
-    subst (λ (calls : List Call). IsTried old new calls before after looked looks (Ok tt)) (sym (up.all ∙ append-nil up.front)) up.tried
 
 -- ---- a result of an error that came from another
 

@@ -1,5 +1,5 @@
 //! The moves of a plan, and the delete of its temporary directory.
-ghost use Rattle.std.specs.Prelude.{◌≡◌, ◌<◌, ◌∷◌, ◌++◌, [], map, true, IfOk, OnOk, vec_len, vec_capacity};
+ghost use Rattle.std.specs.Prelude.{◌≡◌, ◌<◌, ◌∷◌, [], map, IfOk, OnOk, vec_len, vec_capacity};
 ghost use Rattle.hs_types.specs.declared.call.Call.TheVariants as calls;
 ghost use Rattle.hs_plain.specs.Plan.{text_below, out_place, out_calls, put_call as planned_put, move_calls, last_call};
 ghost use Rattle.distcp_sync.specs.inside.Tried.{IsTried, IsNoted};

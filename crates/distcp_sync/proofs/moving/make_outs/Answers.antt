@@ -1,4 +1,4 @@
-use Rattle.std.proofs.Common.{◌+◌, List, [], ◌∷◌, ◌++◌, Err, drop, refl, sym, ◌∙◌, subst}
+use Rattle.std.proofs.Common.{◌+◌, List, [], ◌∷◌, ◌++◌, drop, refl, sym, ◌∙◌, subst}
 use Rattle.hs_types.specs.Names.{Names}
 use Rattle.hs_types.specs.declared.call.Call.TheVariants as calls
 use Rattle.hs_plain.specs.Plan.{text_below, out_place, out_calls}

@@ -1,4 +1,4 @@
-use Rattle.std.proofs.Common.{◌+◌, List, [], ◌∷◌, ◌++◌, Err, drop, map, refl, sym, ◌∙◌, subst}
+use Rattle.std.proofs.Common.{◌+◌, List, [], ◌∷◌, ◌++◌, drop, map, refl, sym, ◌∙◌, subst}
 use Rattle.hs_plain.specs.declared.plan.Put.{Put}
 use Rattle.hs_plain.specs.Plan.{put_call}
 use Rattle.distcp_plan.proofs.Steps.{next}
