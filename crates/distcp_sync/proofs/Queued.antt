@@ -29,6 +29,8 @@ use Rattle.plan_laws.proofs.Listed.{below-so, lines-tell, no-line-of}
 use Rattle.plan_laws.proofs.Distinct.{IsOnce, once-few}
 use Rattle.plan_laws.proofs.Waiting.{IsNewDir, root-old, listed-new, listed-once}
 use Rattle.plan_laws.proofs.FirstDirs.{first_dirs, are-first}
+use Rattle.distcp_sync.specs.Synced.{IsNewDir as IsNewThere}
+use Rattle.distcp_sync.specs.inside.Fetching.{AreUnderWay}
 use Rattle.distcp_sync.specs.inside.Queue.{created_dir_id, first_ids, new_dir_id, new_ids, AreQueued, Lists, QueueIsListings}
 
 take-all : {X : Type 0} (n : ℕ) (xs : List X) → length xs ≤ n → take n xs ≡ xs
@@ -183,3 +185,34 @@ module _ (from to : Tree (List ℕ)) (is : IsPair from to) where
         | inl le ↦ sym (take-all (length to) listings le) ∙ sym front.same
         | inr lt ↦ let long : length (take (length to) listings) ≡ length to = take-length (length to) listings (omega arith) in let at : length (listed_dirs from to) ≡ length (take (length to) listings) = front.long in absurd (omega arith)
       ]
+
+  -- ---- those that wait
+
+  record Wait (rest : List InodeId) : Type 0 where
+    paths : List Names
+    at : AreAt rest paths
+
+  wait : (ids : List InodeId) (paths : List Names) (listings : List Listing) (rest : List InodeId) → AreAt ids paths → AreUnderWay (Lists to) lines ids listings rest → Wait rest
+  wait ids paths [] rest at under = record { paths = paths; at = subst (λ (l : List InodeId). AreAt l paths) (sym under) at }
+  wait [] paths (one ∷ listings) rest at under = absurd under
+  wait (id ∷ ids) [] (one ∷ listings) rest at under = absurd at
+  wait (id ∷ ids) (path ∷ paths) (one ∷ listings) rest at under =
+      let items : one.items ≡ listing to path = under.1 path at.0.new.node at.0.new.at at.0.same in
+      wait (ids ++ new_ids lines one.items) (paths ++ new_dirs_in from to path) listings rest
+      (at-append ids (new_ids lines one.items) paths (new_dirs_in from to path) at.1 (subst (λ (x : List Item). AreAt (new_ids lines x) (new_dirs_in from to path)) (sym items) (all-children-at path at.0.new))) under.2
+
+  new_first : (dir : InodeId) (rest : List InodeId) (paths : List Names) → AreAt (dir ∷ rest) paths → IsNewThere from to dir
+  new_first dir rest [] at = absurd at
+  new_first dir rest (path ∷ paths) at = record {
+    path = path;
+    node = at.0.new.node;
+    there = place_of-here to is.to_tree path at.0.new.node dir at.0.new.at (ap (λ (i : InodeId). i.0) (sym at.0.same));
+    directory = at.0.new.dir;
+    new = ap (place_of from) (sym at.0.same) ∙ at.0.new.new;
+  }
+
+  -- each directory that waits is new
+  pub waits_new : (listings : List Listing) (dir : InodeId) (rest : List InodeId) → AreUnderWay (Lists to) lines (first_ids lines) listings (dir ∷ rest) → IsNewThere from to dir
+  waits_new listings dir rest under =
+      let some : Wait (dir ∷ rest) = wait (first_ids lines) (first_dirs from to is) listings (dir ∷ rest) (first-at lines (lines-tell from to is)) under in
+      new_first dir rest some.paths some.at
