@@ -17,3 +17,5 @@ mod PageChains
 mod PageContents
 mod Gots
 mod QueueSteps
+mod FetchedTrees
+mod FetchedParts

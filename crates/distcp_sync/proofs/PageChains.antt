@@ -1,10 +1,10 @@
 -- Calls for pages, one after the other: what their pages are together, and which reply is no page.
-use Rattle.std.proofs.Common.{◌≡◌, ◌⊎◌, inl, inr, ℕ, ◌≤◌, Bool, true, false, ◌||◌, ◌&&◌, Option, Some, None, is_some, List, [], ◌∷◌, ◌++◌, map, refl, ap, sym, ◌∙◌, subst, append-nil, append_assoc}
+use Rattle.std.proofs.Common.{◌≡◌, ◌⊎◌, inl, inr, ℕ, ◌≤◌, Bool, true, false, Option, Some, None, is_some, List, [], ◌∷◌, ◌++◌, map, refl, ap, sym, ◌∙◌, subst, append-nil, append_assoc}
 use Rattle.std.specs.List.{flat_map, AllByRecursion}
 use Rattle.hs_types.specs.declared.call.Call.{Call}
 use Rattle.hs_types.specs.declared.reply.Answered.{Answered}
 use Rattle.hs_types.specs.declared.reply.Reply.{Reply}
-use Rattle.hs_plain.specs.Answer.{is_ok_reply, is_modifying, is_store_fault}
+use Rattle.hs_plain.specs.Answer.{is_ok_reply}
 use Rattle.hs_plain.specs.Joined.{Follows, AreFurtherPages, last_page}
 use Rattle.hs_plain.specs.Legal.{Said, leaves_entry}
 use Rattle.page_join.specs.Links.{Known, IsCall}
@@ -19,16 +19,10 @@ use Rattle.distcp_sync.specs.inside.Trace.{AreUnentered, HasRead}
 record IsPaging {T : Type 0} (page : Reply → Option (List T)) (shown : Reply → List T) (next : Reply → Option Call) (short : Reply → Bool) (IsAsked : Call → Type 0) : Type 0 where
   shows : (reply : Reply) (more : List T) → page reply ≡ Some more → shown reply ≡ more
   whole : (reply : Reply) (more : List T) → page reply ≡ Some more → short reply ≡ false
-  no_fault : (reply : Reply) (more : List T) → page reply ≡ Some more → is_store_fault reply ≡ false
   no_next : (reply : Reply) → page reply ≡ None → next reply ≡ None
-  reads : (call : Call) → IsAsked call → is_modifying call ≡ false
+  quiet : (old new : Known) (call : Call) (told : Answered) → IsCall old new call told → IsAsked call → leaves_entry call told.reply ≡ false
   ended : (old new : Known) (call : Call) (told : Answered) → IsCall old new call told → IsAsked call → page told.reply ≡ None → is_ok_reply told.reply ≡ false
   goes_on : (old new : Known) (call : Call) (told : Answered) → IsCall old new call told → IsAsked call → (later : Call) → next told.reply ≡ Some later → IsAsked later
-
-left_none : (fault modifying ok : Bool) → fault ≡ false → modifying ≡ false → (fault || (modifying && ok)) ≡ false
-left_none true modifying ok e f = absurd (cc)
-left_none false true ok e f = absurd (cc)
-left_none false false ok e f = refl
 
 -- no page follows where no call for one is known
 none_follows : (o : Option Call) (said : Said) → o ≡ None → Follows Asks o said → ⊥
@@ -60,22 +54,19 @@ module _ {T : Type 0} (page : Reply → Option (List T)) (shown : Reply → List
     whole : (content : List T) → HasRead old new → is_some (page first.told.reply) ≡ true → short (last_page first more).told.reply ≡ false → content ≡ before ++ flat_map shown_by (first ∷ more) → IsJoin old new first more before (Whole content)
     ended : (call : Call) (told : Answered) (now : Known) → HasRead old now → IsAsked call → IsCall now new call told → is_ok_reply told.reply ≡ false → IsJoin old new first more before (Ended told)
 
-  quiet : (call : Call) (reply : Reply) (more : List T) → IsAsked call → page reply ≡ Some more → leaves_entry call reply ≡ false
-  quiet call reply more asks is_page = left_none (is_store_fault reply) (is_modifying call) (is_ok_reply reply) (is.no_fault reply more is_page) (is.reads call asks)
-
   -- behind one page the others
   behind_first : (old now new : Known) (first said : Said) (more : List Said) (before held : List T) (content : Content T) → IsCall old now first.call first.told → now.calls ≡ first.seq → IsAsked first.call → page first.told.reply ≡ Some held →
       IsJoin now new said more (before ++ held) content → IsJoin old new first (said ∷ more) before content
   behind_first old now new first said more before held content called seq asks is_page (IsJoin.whole all read some last same) =
-      IsJoin.whole all (read_more old now new first called seq (quiet first.call first.told.reply held asks is_page) read) (ap is_some is_page) last
+      IsJoin.whole all (read_more old now new first called seq (is.quiet old now first.call first.told called asks) read) (ap is_some is_page) last
       (same ∙ append_assoc before held (flat_map shown_by (said ∷ more)) ∙ ap (λ (xs : List T). before ++ (xs ++ flat_map shown_by (said ∷ more))) (sym (is.shows first.told.reply held is_page)))
   behind_first old now new first said more before held content called seq asks is_page (IsJoin.ended call told then read asked last bad) =
-      IsJoin.ended call told then (read_more old now then first called seq (quiet first.call first.told.reply held asks is_page) read) asked last bad
+      IsJoin.ended call told then (read_more old now then first called seq (is.quiet old now first.call first.told called asks) read) asked last bad
 
   -- one page alone
   only : (old new : Known) (first : Said) (before held : List T) → IsCall old new first.call first.told → new.calls ≡ first.seq → IsAsked first.call → page first.told.reply ≡ Some held → IsJoin old new first [] before (Whole (before ++ held))
   only old new first before held called seq asks is_page =
-      IsJoin.whole (before ++ held) (read_more old new new first called seq (quiet first.call first.told.reply held asks is_page) (read_none new new refl)) (ap is_some is_page) (is.whole first.told.reply held is_page)
+      IsJoin.whole (before ++ held) (read_more old new new first called seq (is.quiet old new first.call first.told called asks) (read_none new new refl)) (ap is_some is_page) (is.whole first.told.reply held is_page)
       (ap (λ (xs : List T). before ++ xs) (sym (append-nil held) ∙ ap (λ (xs : List T). xs ++ []) (sym (is.shows first.told.reply held is_page))))
 
   join_by : (old new : Known) (first : Said) (more : List Said) (before : List T) → AreMade old new (first ∷ more) → AreFurtherPages Asks (λ said. next said.told.reply) first more → IsAsked first.call →
@@ -94,3 +85,10 @@ module _ {T : Type 0} (page : Reply → Option (List T)) (shown : Reply → List
   pub join : (old new : Known) (first : Said) (more : List Said) (before : List T) → AreMade old new (first ∷ more) → AreFurtherPages Asks (λ said. next said.told.reply) first more → IsAsked first.call →
       IsJoin old new first more before (content_of page before (map (λ said. said.told) (first ∷ more)))
   join old new first more before made further asks = join_by old new first more before made further asks (page first.told.reply) refl
+
+  -- none of them left an entry
+  pub all_read : (old new : Known) (first : Said) (more : List Said) → AreMade old new (first ∷ more) → AreFurtherPages Asks (λ said. next said.told.reply) first more → IsAsked first.call → HasRead old new
+  all_read old new first [] made further asks = read_more old made.0 new first made.1 made.2 (is.quiet old made.0 first.call first.told made.1 asks) (read_none made.0 new made.3)
+  all_read old new first (said ∷ more) made further asks =
+      read_more old made.0 new first made.1 made.2 (is.quiet old made.0 first.call first.told made.1 asks)
+      (all_read made.0 new said more made.3 further.1 (is.goes_on old made.0 first.call first.told made.1 asks said.call (follows_is (next first.told.reply) said further.0)))

@@ -1,7 +1,7 @@
 -- What was read of a listing and of a report.
 use Rattle.std.proofs.Common.{◌≡◌, ◌⊎◌, inl, inr, ℕ, ◌≤◌, Bool, true, false, cond, ◌||◌, ◌&&◌, Option, Some, None, is_some, Result, Ok, Err, List, [], ◌∷◌, ◌++◌, map, length, take, drop, refl, ap, sym, ◌∙◌, subst, append-nil}
 use Rattle.std.specs.List.{flat_map}
-use Rattle.std.specs.Prelude.{IfOk, OnErr}
+use Rattle.std.specs.Prelude.{IfOk, IsErrAnd}
 use Rattle.hs_types.specs.declared.ids.InodeId.{InodeId}
 use Rattle.hs_types.specs.declared.ids.SnapId.{SnapId}
 use Rattle.hs_types.specs.declared.memory.NoMemory.{NoMemory}
@@ -19,7 +19,7 @@ use Rattle.hs_types.specs.declared.reply.Line.{Line}
 use Rattle.hs_types.specs.declared.reply.Reply.{Reply}
 use Rattle.hs_types.specs.declared.reply.Reply.TheVariants as replies
 use Rattle.hs_plain.specs.declared.state.State.{State}
-use Rattle.hs_plain.specs.Answer.{answer, claimed, blanked, is_modifying, is_store_fault, is_ok_reply, is_plain_reply}
+use Rattle.hs_plain.specs.Answer.{answer, claimed, blanked, is_modifying, uses_store, is_ok_reply, is_plain_reply}
 use Rattle.hs_plain.specs.Legal.{Said, leaves_entry}
 use Rattle.hs_plain.specs.Joined.{AreJoined, known_state, last_page, items_shown, list_cursor, is_page, lines_shown, report_cursor, is_report, gone_or_no_memory}
 use Rattle.hs_plain.specs.JoinedPages.{IsJoinedListing, has_now, gone_or_moved}
@@ -40,8 +40,8 @@ use Rattle.distcp_sync.specs.declared.contents.Content.TheVariants.{Whole, Ended
 use Rattle.distcp_sync.specs.inside.Pages.{items_of_page, lines_of_page, content_of}
 use Rattle.distcp_sync.specs.inside.Trace.{HasRead}
 use Rattle.distcp_sync.specs.inside.Fetching.{WasListed, WasReported, IsListCall, IsReportCall, IsRead}
-use Rattle.distcp_sync.proofs.PageReplies.{IsSameReport, list_ended, list_goes_on, report_ended, report_goes_on}
-use Rattle.distcp_sync.proofs.PageChains.{IsPaging, IsJoin, join}
+use Rattle.distcp_sync.proofs.PageReplies.{IsSameReport, quiet_call, list_ended, list_goes_on, report_ended, report_goes_on}
+use Rattle.distcp_sync.proofs.PageChains.{IsPaging, IsJoin, join, all_read}
 
 -- ---- the two kinds of pages
 
@@ -65,9 +65,8 @@ list_paging : (place : Place) (size : ℕ) → IsPaging items_of_page items_show
 list_paging place size = record {
   shows = shows;
   whole = whole;
-  no_fault = no_fault;
   no_next = no_next;
-  reads = λ call asks. ap is_modifying asks.call_is;
+  quiet = λ old new call told called asks. quiet_call old new call told called (ap is_modifying asks.call_is) (ap uses_store asks.call_is);
   ended = λ old new call told called asks none. list_ended old new call told called size place asks none;
   goes_on = λ old new call told called asks later e. next_list place size (list_cursor told.reply) later (list_goes_on old new call told called size place asks) e;
 }
@@ -80,10 +79,6 @@ list_paging place size = record {
     whole (replies.Page items next) more e = refl
     whole reply more e = absurd (cc)
 
-    no_fault : (reply : Reply) (more : List Item) → items_of_page reply ≡ Some more → is_store_fault reply ≡ false
-    no_fault (replies.Page items next) more e = refl
-    no_fault reply more e = absurd (cc)
-
     no_next : (reply : Reply) → items_of_page reply ≡ None → next_call (Items size) reply ≡ None
     no_next (replies.Page items next) e = absurd (cc)
     no_next reply e = refl
@@ -92,9 +87,8 @@ report_paging : (begun : ReportCursor) (size : ℕ) → IsPaging lines_of_page l
 report_paging begun size = record {
   shows = shows;
   whole = whole;
-  no_fault = no_fault;
   no_next = no_next;
-  reads = λ call asks. ap is_modifying asks.call_is;
+  quiet = λ old new call told called asks. quiet_call old new call told called (ap is_modifying asks.call_is) (ap uses_store asks.call_is);
   ended = λ old new call told called asks none. report_ended old new call told called size begun asks none;
   goes_on = λ old new call told called asks later e. next_report begun size (report_cursor told.reply) later (report_goes_on old new call told called size begun asks) e;
 }
@@ -110,10 +104,6 @@ report_paging begun size = record {
     whole : (reply : Reply) (more : List Line) → lines_of_page reply ≡ Some more → gone_or_moved begun reply ≡ false
     whole (replies.Report lines next) more e = none (has_now begun)
     whole reply more e = absurd (cc)
-
-    no_fault : (reply : Reply) (more : List Line) → lines_of_page reply ≡ Some more → is_store_fault reply ≡ false
-    no_fault (replies.Report lines next) more e = refl
-    no_fault reply more e = absurd (cc)
 
     no_next : (reply : Reply) → lines_of_page reply ≡ None → next_call (Lines size) reply ≡ None
     no_next (replies.Report lines next) e = absurd (cc)
@@ -165,12 +155,18 @@ module _ (old new : Known) (id : InodeId) (snapshot : SnapId) (size : ℕ) where
       })
   read_list got are content (IsJoin.ended call told now read asks called bad) = IsRead.ended call told now read asks called bad
 
-  -- all pages of a frozen directory
-  pub list_read : (got : List Answered) → AreItems got → (content : Content Item) → content ≡ content_of items_of_page [] got → IsRead (IsListCall frozen size) IsItems old new (Ok content)
+  list_read : (got : List Answered) → AreItems got → (content : Content Item) → content ≡ content_of items_of_page [] got → IsRead (IsListCall frozen size) IsItems old new (Ok content)
   list_read got are content same =
       read_list got are content
       (subst (IsJoin items_of_page items_shown (next_call (Items size)) gone_or_no_memory (IsListCall frozen size) (list_paging frozen size) old new are.pages.first are.pages.more []) (ap (content_of items_of_page []) are.pages.told ∙ sym same)
       (join items_of_page items_shown (next_call (Items size)) gone_or_no_memory (IsListCall frozen size) (list_paging frozen size) old new are.pages.first are.pages.more [] are.pages.made are.pages.further (record { after = None; call_is = are.pages.begins })))
+
+  -- all pages of a frozen directory, put together as far as there is memory
+  pub list_joined : (got : List Answered) → AreItems got → (result : Result (Content Item) NoMemory) → IfOk result (λ content. content ≡ content_of items_of_page [] got) → IsRead (IsListCall frozen size) IsItems old new result
+  list_joined got are (Ok content) same = list_read got are content same
+  list_joined got are (Err none) same =
+      IsRead.wanting none
+      (all_read items_of_page items_shown (next_call (Items size)) gone_or_no_memory (IsListCall frozen size) (list_paging frozen size) old new are.pages.first are.pages.more are.pages.made are.pages.further (record { after = None; call_is = are.pages.begins }))
 
 -- ---- reports
 
@@ -223,15 +219,22 @@ module _ (old new : Known) (begun : ReportCursor) (first_line : begun.index ≡ 
       })
   read_report got are content (IsJoin.ended call told now read asks called bad) = IsRead.ended call told now read asks called bad
 
-  -- all pages of a report
-  pub report_read : (got : List Answered) → AreLines got → (content : Content Line) → content ≡ content_of lines_of_page [] got → IsRead (IsReportCall begun size) IsLines old new (Ok content)
+  report_read : (got : List Answered) → AreLines got → (content : Content Line) → content ≡ content_of lines_of_page [] got → IsRead (IsReportCall begun size) IsLines old new (Ok content)
   report_read got are content same =
       read_report got are content
       (subst (IsJoin lines_of_page lines_shown (next_call (Lines size)) (gone_or_moved begun) (IsReportCall begun size) (report_paging begun size) old new are.pages.first are.pages.more []) (ap (content_of lines_of_page []) are.pages.told ∙ sym same)
       (join lines_of_page lines_shown (next_call (Lines size)) (gone_or_moved begun) (IsReportCall begun size) (report_paging begun size) old new are.pages.first are.pages.more [] are.pages.made are.pages.further (record { cursor = begun; root = refl; from = refl; to = refl; call_is = are.pages.begins })))
 
+  -- all pages of a report, put together as far as there is memory
+  pub report_joined : (got : List Answered) → AreLines got → (result : Result (Content Line) NoMemory) → IfOk result (λ content. content ≡ content_of lines_of_page [] got) → IsRead (IsReportCall begun size) IsLines old new result
+  report_joined got are (Ok content) same = report_read got are content same
+  report_joined got are (Err none) same =
+      IsRead.wanting none
+      (all_read lines_of_page lines_shown (next_call (Lines size)) (gone_or_moved begun) (IsReportCall begun size) (report_paging begun size) old new are.pages.first are.pages.more are.pages.made are.pages.further (record { cursor = begun; root = refl; from = refl; to = refl; call_is = are.pages.begins }))
+
 -- ---- want of memory
 
 -- behind pages that were read
-pub cut_read : {T : Type 0} (IsAsked : Call → Type 0) (IsContent : List T → Type 0) (paging : Paging) (old new : Known) (begin : Call) (none : NoMemory) → AreCutOff paging old new begin → IsRead IsAsked IsContent old new (Err none)
-cut_read IsAsked IsContent paging old new begin none cut = IsRead.wanting none (record { calls = cut.calls; read = record { made = cut.made; unentered = cut.unentered } })
+pub cut_read : {T : Type 0} (IsAsked : Call → Type 0) (IsContent : List T → Type 0) (paging : Paging) (old new : Known) (begin : Call) (result : Result (Content T) NoMemory) (P : NoMemory → Type 0) → IsErrAnd result P → AreCutOff paging old new begin → IsRead IsAsked IsContent old new result
+cut_read IsAsked IsContent paging old new begin (Ok content) P err cut = absurd err
+cut_read IsAsked IsContent paging old new begin (Err none) P err cut = IsRead.wanting none (record { calls = cut.calls; read = record { made = cut.made; unentered = cut.unentered } })

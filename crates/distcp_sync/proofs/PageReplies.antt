@@ -1,5 +1,5 @@
 -- Replies to calls for pages: a page whose cursor goes on with the same content, or no Ok reply.
-use Rattle.std.proofs.Common.{◌≡◌, ◌⊎◌, inl, inr, ℕ, ◌+◌, nat_le, take, drop, length, Bool, true, false, cond, ◌||◌, not, Option, Some, None, Ok, Err, List, refl, ap, sym, ◌∙◌, subst}
+use Rattle.std.proofs.Common.{◌≡◌, ◌⊎◌, inl, inr, ℕ, ◌+◌, nat_le, take, drop, length, Bool, true, false, cond, ◌||◌, ◌&&◌, not, Option, Some, None, Ok, Err, List, refl, ap, sym, ◌∙◌, subst}
 use Rattle.hs_types.specs.declared.call.Call.{Call}
 use Rattle.hs_types.specs.declared.call.Call.TheVariants as calls
 use Rattle.hs_types.specs.declared.call.ListCursor.{ListCursor}
@@ -17,11 +17,12 @@ use Rattle.hs_plain.specs.Asked.{Asked, ◌>>=◌, refuse_if}
 use Rattle.hs_plain.specs.State.{is_snapshottable, items_at}
 use Rattle.hs_plain.specs.Pages.{items_behind, next_cursor, last_name, page_of, next_lines, lines_page}
 use Rattle.hs_plain.specs.Reading.{is_gone, is_deleted, is_foreign, has_moved, began_at, lines_between, report_page}
-use Rattle.hs_plain.specs.Answer.{answer, reply_to, blanked, claimed, is_modifying, uses_store, is_ok_reply}
-use Rattle.hs_plain.specs.Legal.{Said}
+use Rattle.hs_plain.specs.Answer.{Origin, origin_of, is_machine, is_store, answer, reply_to, blanked, claimed, is_modifying, uses_store, is_ok_reply, is_store_fault}
+use Rattle.hs_plain.specs.Legal.{Said, leaves_entry}
 use Rattle.hs_plain.specs.Joined.{known_state, list_cursor, report_cursor}
+use Rattle.hs_plain.proofs.Answers.{answers_own}
 use Rattle.hs_plain.proofs.Facts.{some_of}
-use Rattle.hs_plain.proofs.Paged.{shared_reply}
+use Rattle.hs_plain.proofs.Paged.{observed, shared_reply}
 use Rattle.page_join.specs.Links.{Known, IsCall, said_by}
 use Rattle.distcp_sync.specs.inside.Pages.{items_of_page, lines_of_page}
 use Rattle.distcp_sync.specs.inside.Fetching.{IsListCall, IsReportCall}
@@ -120,6 +121,30 @@ told_report begun false reply other (IsReportAnswer.refused why) e = subst (IsRe
 called_so : (old new : Known) (call : Call) (told : Answered) → IsCall old new call told → is_modifying call ≡ false → uses_store call ≡ false →
     (claimed old.tells told.reply ≡ claimed old.tells (answer (known_state new.seen (said_by new call told)) call)) ⊎ (told.reply ≡ replies.NoMemory)
 called_so old new call told called = shared_reply old.tells old.limit new.seen old.caller (said_by new call told) called.lawful.proper called.legal
+
+-- a reply of the plain machine is no fault of the store
+plain_no_fault : (origin : Origin) → is_machine origin ≡ true → is_store origin ≡ false
+plain_no_fault Origin.machine e = refl
+plain_no_fault origin e = absurd (cc)
+
+fault-blank : (reply : Reply) → is_store_fault (blanked reply) ≡ is_store_fault reply
+fault-blank (replies.Refused why) = refl
+fault-blank reply = refl
+
+left_none : (fault modifying ok : Bool) → fault ≡ false → modifying ≡ false → (fault || (modifying && ok)) ≡ false
+left_none true modifying ok e f = absurd (cc)
+left_none false true ok e f = absurd (cc)
+left_none false false ok e f = refl
+
+-- a call that changes nothing and uses no store leaves no entry
+pub quiet_call : (old new : Known) (call : Call) (told : Answered) → IsCall old new call told → is_modifying call ≡ false → uses_store call ≡ false → leaves_entry call told.reply ≡ false
+quiet_call old new call told called modifies_none stores_none =
+    let own : Reply = answer (known_state new.seen (said_by new call told)) call in
+    left_none (is_store_fault told.reply) (is_modifying call) (is_ok_reply told.reply)
+    (elim (called_so old new call told called modifies_none stores_none) as (λ _. is_store_fault told.reply ≡ false) [
+      | inl plain ↦ observed is_store_fault fault-blank old.tells told.reply own plain ∙ plain_no_fault (origin_of own) (answers_own (known_state new.seen (said_by new call told)) call)
+      | inr memory ↦ ap is_store_fault memory
+    ]) modifies_none
 
 abbrev IsListTold : Place → Reply → Type 0
 IsListTold place reply = IsListAnswer place reply ⊎ (reply ≡ replies.NoMemory)

@@ -51,10 +51,10 @@ pub(crate) fn fetch<L: NameLink>(
     ensures same { OnOk result (looks.new ≡ looks.old) }
 {
     let lines = fetch_lines(alloc, start, page, source, looks)?;
-    let old = Place::Frozen(start.target, start.base);
-    let old_names = fetch_names(alloc, target, Side::Target, old, page, looks)?;
-    let new = Place::Frozen(start.source, start.to);
-    let new_names = fetch_names(alloc, source, Side::Source, new, page, looks)?;
+    let (dir, snap) = (start.target, start.base);
+    let old_names = fetch_names(alloc, target, Side::Target, dir, snap, page, looks)?;
+    let (dir, snap) = (start.source, start.to);
+    let new_names = fetch_names(alloc, source, Side::Source, dir, snap, page, looks)?;
     let listings = fetch_listings(alloc, start.to, page, lines.items(), source, looks)?;
     let roots = RootNames {
         target: old_names,
@@ -117,7 +117,8 @@ fn fetch_names<L: NameLink>(
     alloc: Global,
     link: &mut L,
     side: Side,
-    place: Place,
+    dir: InodeId,
+    snap: SnapId,
     page: PageSize,
     looks: &mut Vec<Look>,
 ) -> Result<List<Name>, SyncAnswer>
@@ -125,10 +126,10 @@ fn fetch_names<L: NameLink>(
     ensures number { L.number link.new ≡ L.number link.old }
     ensures alone { L.alone link.new ≡ L.alone link.old }
     ensures stays { L.stays link.old link.new }
-    ensures got { IsGotWith side (IsListCall place page) (WasNamed (length (L.known link.old).seen) (L.known link.new).seen place) (L.known link.old) (L.known link.new) looks.old.items looks.new.items result }
+    ensures got { IsGotWith side (IsListCall (places.Frozen dir snap) page) (WasNamed (length (L.known link.old).seen) (L.known link.new).seen (places.Frozen dir snap)) (L.known link.old) (L.known link.new) looks.old.items looks.new.items result }
     ensures same { OnOk result (looks.new ≡ looks.old) }
 {
-    let items = fetch_items(alloc, link, side, place, page, looks)?;
+    let items = fetch_items(alloc, link, side, dir, snap, page, looks)?;
     match names_of(alloc, items) {
         Ok(names) => Ok(names),
         Err(NoMemory) => Err(SyncAnswer::NoMemory),
@@ -150,7 +151,8 @@ fn fetch_items<L: NameLink>(
     alloc: Global,
     link: &mut L,
     side: Side,
-    place: Place,
+    dir: InodeId,
+    snap: SnapId,
     page: PageSize,
     looks: &mut Vec<Look>,
 ) -> Result<List<Item>, SyncAnswer>
@@ -158,11 +160,11 @@ fn fetch_items<L: NameLink>(
     ensures number { L.number link.new ≡ L.number link.old }
     ensures alone { L.alone link.new ≡ L.alone link.old }
     ensures stays { L.stays link.old link.new }
-    ensures got { IsGotWith side (IsListCall place page) (WasListed (length (L.known link.old).seen) (L.known link.new).seen place) (L.known link.old) (L.known link.new) looks.old.items looks.new.items result }
+    ensures got { IsGotWith side (IsListCall (places.Frozen dir snap) page) (WasListed (length (L.known link.old).seen) (L.known link.new).seen (places.Frozen dir snap)) (L.known link.old) (L.known link.new) looks.old.items looks.new.items result }
     ensures same { OnOk result (looks.new ≡ looks.old) }
 {
     let caller = link.caller();
-    match list_items(alloc, link, place, page) {
+    match list_items(alloc, link, dir, snap, page) {
         Ok(Content::Whole(items)) => Ok(items),
         Ok(Content::Ended(reply)) => Err(end_at(side, caller, reply, looks)),
         Err(NoMemory) => Err(SyncAnswer::NoMemory),
@@ -172,14 +174,16 @@ fn fetch_items<L: NameLink>(
 fn list_items<L: NameLink>(
     alloc: Global,
     link: &mut L,
-    place: Place,
+    dir: InodeId,
+    snap: SnapId,
     page: PageSize,
 ) -> Result<Content<Item>, NoMemory>
     ensures number { L.number link.new ≡ L.number link.old }
     ensures alone { L.alone link.new ≡ L.alone link.old }
     ensures stays { L.stays link.old link.new }
-    ensures read { IsRead (IsListCall place page) (WasListed (length (L.known link.old).seen) (L.known link.new).seen place) (L.known link.old) (L.known link.new) result }
+    ensures read { IsRead (IsListCall (places.Frozen dir snap) page) (WasListed (length (L.known link.old).seen) (L.known link.new).seen (places.Frozen dir snap)) (L.known link.old) (L.known link.new) result }
 {
+    let place = Place::Frozen(dir, snap);
     let cursor = ListCursor { place, after: None };
     let replies = list_all(alloc, link, ListStart::Next(cursor), page)?;
     joined_items(alloc, replies)
@@ -246,8 +250,7 @@ fn list_next<'p, L: NameLink>(
     ensures same { OnOk result (looks.new ≡ looks.old) }
 {
     let dir = ids[listings.len()];
-    let place = Place::Frozen(dir, to);
-    let items = fetch_items(alloc, source, Side::Source, place, page, looks)?;
+    let items = fetch_items(alloc, source, Side::Source, dir, to, page, looks)?;
     match add_listing(moves, dir, items, ids, listings) {
         Ok(()) => Ok(()),
         Err(NoMemory) => Err(SyncAnswer::NoMemory),
