@@ -16,13 +16,13 @@ use Rattle.distcp_sync.specs.inside.Pages.{behind_page, content_of}
 use Rattle.distcp_sync.specs.inside.Trace.{AreUnentered, HasRead}
 
 -- what a kind of pages has: what a page holds, what it shows, the call for the next one, and why a reply may end them early
-record IsPaging {T : Type 0} (page : Reply → Option (List T)) (shown : Reply → List T) (next : Reply → Option Call) (short : Reply → Bool) (IsAsked : Call → Type 0) : Type 0 where
-  shows : (reply : Reply) (more : List T) → page reply ≡ Some more → shown reply ≡ more
-  whole : (reply : Reply) (more : List T) → page reply ≡ Some more → short reply ≡ false
-  no_next : (reply : Reply) → page reply ≡ None → next reply ≡ None
-  quiet : (old new : Known) (call : Call) (told : Answered) → IsCall old new call told → IsAsked call → leaves_entry call told.reply ≡ false
-  ended : (old new : Known) (call : Call) (told : Answered) → IsCall old new call told → IsAsked call → page told.reply ≡ None → is_ok_reply told.reply ≡ false
-  goes_on : (old new : Known) (call : Call) (told : Answered) → IsCall old new call told → IsAsked call → (later : Call) → next told.reply ≡ Some later → IsAsked later
+pub record IsPaging {T : Type 0} (page : Reply → Option (List T)) (shown : Reply → List T) (next : Reply → Option Call) (short : Reply → Bool) (IsAsked : Call → Type 0) : Type 0 where
+  pub shows : (reply : Reply) (more : List T) → page reply ≡ Some more → shown reply ≡ more
+  pub whole : (reply : Reply) (more : List T) → page reply ≡ Some more → short reply ≡ false
+  pub no_next : (reply : Reply) → page reply ≡ None → next reply ≡ None
+  pub quiet : (old new : Known) (call : Call) (told : Answered) → IsCall old new call told → IsAsked call → leaves_entry call told.reply ≡ false
+  pub ended : (old new : Known) (call : Call) (told : Answered) → IsCall old new call told → IsAsked call → page told.reply ≡ None → is_ok_reply told.reply ≡ false
+  pub goes_on : (old new : Known) (call : Call) (told : Answered) → IsCall old new call told → IsAsked call → (later : Call) → next told.reply ≡ Some later → IsAsked later
 
 -- no page follows where no call for one is known
 none_follows : (o : Option Call) (said : Said) → o ≡ None → Follows Asks o said → ⊥

@@ -1,7 +1,7 @@
 -- What was read of a listing and of a report.
 use Rattle.std.proofs.Common.{◌≡◌, ◌⊎◌, inl, inr, ℕ, ◌≤◌, Bool, true, false, cond, ◌||◌, ◌&&◌, Option, Some, None, is_some, Result, Ok, Err, List, [], ◌∷◌, ◌++◌, map, length, take, drop, refl, ap, sym, ◌∙◌, subst, append-nil}
 use Rattle.std.specs.List.{flat_map}
-use Rattle.std.specs.Prelude.{IfOk, IsErrAnd}
+use Rattle.std.specs.Prelude.{IfOk, IsErr}
 use Rattle.hs_types.specs.declared.ids.InodeId.{InodeId}
 use Rattle.hs_types.specs.declared.ids.SnapId.{SnapId}
 use Rattle.hs_types.specs.declared.memory.NoMemory.{NoMemory}
@@ -179,9 +179,9 @@ report-plain (replies.Report lines next) is = refl
 report-plain reply is = absurd (cc)
 
 neither_so : (a b : Bool) → ((a || b) ≡ true → ⊥) → (a ≡ false) × (b ≡ false)
-neither_so true b no = absurd (no refl)
-neither_so false true no = absurd (no refl)
-neither_so false false no = (refl, refl)
+neither_so true b never = absurd (never refl)
+neither_so false true never = absurd (never refl)
+neither_so false false never = (refl, refl)
 
 module _ (old new : Known) (begun : ReportCursor) (first_line : begun.index ≡ 0) (size : ℕ) where
   abbrev IsLines : List Line → Type 0
@@ -235,6 +235,6 @@ module _ (old new : Known) (begun : ReportCursor) (first_line : begun.index ≡ 
 -- ---- want of memory
 
 -- behind pages that were read
-pub cut_read : {T : Type 0} (IsAsked : Call → Type 0) (IsContent : List T → Type 0) (paging : Paging) (old new : Known) (begin : Call) (result : Result (Content T) NoMemory) (P : NoMemory → Type 0) → IsErrAnd result P → AreCutOff paging old new begin → IsRead IsAsked IsContent old new result
-cut_read IsAsked IsContent paging old new begin (Ok content) P err cut = absurd err
-cut_read IsAsked IsContent paging old new begin (Err none) P err cut = IsRead.wanting none (record { calls = cut.calls; read = record { made = cut.made; unentered = cut.unentered } })
+pub cut_read : {T : Type 0} (IsAsked : Call → Type 0) (IsContent : List T → Type 0) (paging : Paging) (old new : Known) (begin : Call) (result : Result (Content T) NoMemory) → IsErr result → AreCutOff paging old new begin → IsRead IsAsked IsContent old new result
+cut_read IsAsked IsContent paging old new begin (Ok content) err cut = absurd (cc)
+cut_read IsAsked IsContent paging old new begin (Err none) err cut = IsRead.wanting none (record { calls = cut.calls; read = record { made = cut.made; unentered = cut.unentered } })

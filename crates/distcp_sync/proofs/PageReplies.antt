@@ -77,8 +77,8 @@ next_same begun tick count end cursor = by (nat_le count end)
 
 -- what a call for a page of a report is answered, by what each test says
 abbrev tested : (gone elsewhere foreign moved : Bool) → Refusal → Reply → Reply
-tested gone elsewhere foreign moved why page =
-    reply_to (refuse_if gone Gone >>= λ _. refuse_if elsewhere NotSnapshottable >>= λ _. refuse_if foreign NoSnapshot >>= λ _. refuse_if moved why >>= λ _. Ok page)
+tested gone elsewhere foreign moved why shown =
+    reply_to (refuse_if gone Gone >>= λ _. refuse_if elsewhere NotSnapshottable >>= λ _. refuse_if foreign NoSnapshot >>= λ _. refuse_if moved why >>= λ _. Ok shown)
 
 report_by : (begun : ReportCursor) (tick size : ℕ) (lines : List Line) (why : Refusal) (gone elsewhere foreign moved : Bool) → IsReportAnswer begun (tested gone elsewhere foreign moved why (lines_page begun tick lines size))
 report_by begun tick size lines why true elsewhere foreign moved = IsReportAnswer.refused Gone
