@@ -8,9 +8,9 @@ use Rattle.distcp_sync.proofs.fetching.report_lines.Goals as goal
 pub returns-in_err-replies-clause-read : goal.returns-in_err-replies-clause-read
 returns-in_err-replies-clause-read g c =
     let begun = begin_report c.args.start.now in
-    cut_read (IsReportCall begun c.args.page) _ (Lines c.args.page) (g.L.NameLink.known c.args.source.now) (g.L.NameLink.known c.report_all.new.source) (calls.ReportNext begun c.args.page)
+    cut_read (IsReportCall begun c.args.page) _ (Lines c.args.page) (g.L.NameLink.known c.args.source.now) (g.L.NameLink.known c.report_all.new.link) (calls.ReportNext begun c.args.page)
     c.from_residual.result c.from_residual.ensures.0 c.in_err-replies.ensures.cut_off
 
 pub returns-clause-read : goal.returns-clause-read
 returns-clause-read g c =
-    report_joined (g.L.NameLink.known c.args.source.now) (g.L.NameLink.known c.report_all.new.source) (begin_report c.args.start.now) refl c.args.page c.in_ok-replies.replies c.in_ok-replies.ensures.reported c.joined_lines.result c.joined_lines.ensures
+    report_joined (g.L.NameLink.known c.args.source.now) (g.L.NameLink.known c.report_all.new.link) (begin_report c.args.start.now) refl c.args.page c.in_ok-replies.replies c.in_ok-replies.ensures.reported c.joined_lines.result c.joined_lines.ensures
