@@ -99,6 +99,19 @@ module _ {T : Type 0} (side : Side) (IsAsked : Call → Type 0) (IsContent : Lis
         is;
   }
 
+  pub got_whole : (result : Result (Content T) NoMemory) (held : Content T) (content : List T) → result ≡ Ok held → held ≡ Whole content → IsRead IsAsked IsContent old new result → IsGotWith side IsAsked IsContent old new before before (Ok content)
+  got_whole result held content is held_is read = subst GotBy (is ∙ ap (λ (c : Content T). Ok c) held_is) (got_by result read)
+
+  pub got_wanting : (result : Result (Content T) NoMemory) (none : NoMemory) → result ≡ Err none → IsRead IsAsked IsContent old new result → IsGotWith side IsAsked IsContent old new before before (Err answers.NoMemory)
+  got_wanting result none is read = subst GotBy is (got_by result read)
+
+  pub got_ended : (result : Result (Content T) NoMemory) (held : Content T) (told : Answered) (caller : CallerId) (after : List Look) (answer : SyncAnswer) → result ≡ Ok held → held ≡ Ended told → caller ≡ old.caller → after ≡ before ++ look_at side caller told ∷ [] →
+      OrNoMemory (answer_at (look_at side caller told)) answer → IsRead IsAsked IsContent old new result → IsGotWith side IsAsked IsContent old new before after (Err answer)
+  got_ended result held told caller after answer is held_is mine kept so read =
+      subst GotBy (is ∙ ap (λ (c : Content T). Ok c) held_is) (got_by result read) after answer
+      (kept ∙ ap (λ (k : CallerId). before ++ look_at side k told ∷ []) mine)
+      (subst (λ (k : CallerId). OrNoMemory (answer_at (look_at side k told)) answer) mine so)
+
 -- ---- from what was got
 
 -- a content that was got
