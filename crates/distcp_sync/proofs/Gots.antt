@@ -1,6 +1,7 @@
 -- What was got through one link: a content, or the reply that ends a sync.
 use Rattle.std.proofs.Common.{◌≡◌, ◌⊎◌, inl, inr, ℕ, ◌≤◌, false, Option, Some, None, Result, Ok, Err, List, [], ◌∷◌, ◌++◌, length, take, refl, ap, sym, ◌∙◌, subst, append-nil, length-append, arith}
 use Rattle.std.specs.List.{AllByRecursion}
+use Rattle.std.specs.Prelude.{IsErrAnd}
 use Rattle.std.proofs.lemmas.List.{take-append-le}
 use mathlib.Core.List.{IsPrefix}
 use Rattle.hs_types.specs.declared.ids.CallerId.{CallerId}
@@ -163,3 +164,8 @@ module _ {U : Type 0} (side : Side) (IsAsked : Call → Type 0) (IsContent : U �
   -- want of memory behind reads
   pub got_want : IsGotWith side IsAsked IsContent old new before after (Err answers.NoMemory)
   got_want = record { later = []; looks = same ∙ sym (append-nil before); got = IsGot.wanting read }
+
+-- an error that is handed on
+pub err_so : {U : Type 0} (result : Result U SyncAnswer) (answer : SyncAnswer) (P : Result U SyncAnswer → Type 0) → IsErrAnd result (λ given. given ≡ answer) → P (Err answer) → P result
+err_so (Ok content) answer P gives p = absurd gives
+err_so (Err given) answer P gives p = subst (λ (a : SyncAnswer). P (Err a)) (sym gives) p
