@@ -19,3 +19,4 @@ mod Gots
 mod QueueSteps
 mod FetchedTrees
 mod FetchedParts
+pub mod RenamedIds

@@ -1,5 +1,6 @@
 //! The queue of new directories that are to be listed.
-ghost use Rattle.std.specs.Prelude.{◌≡◌, ◌++◌, IfOk, OnOk};
+ghost use Rattle.std.specs.Prelude.{◌≡◌, ◌++◌, ◌&&◌, not, IfOk, OnOk};
+ghost use Rattle.plan_laws.specs.Translated.{renames_id};
 ghost use Rattle.std.specs.Option.{option_to_list};
 ghost use Rattle.distcp_sync.specs.inside.Queue.{created_dir_id, first_ids, new_dir_id, new_ids, QueueIsListings};
 
@@ -43,9 +44,26 @@ pub(crate) fn add_new<'p>(
     ensures { OnOk result (ids.new.items ≡ ids.old.items ++ new_ids moves.now items.now) }
 {
     for item in items {
-        if item.is_dir && !moves.has_id(item.id) {
-            ids.push(item.id)?;
+        if let Some(id) = new_dir_id(moves, item) {
+            ids.push(id)?;
         }
     }
     Ok(())
+}
+
+fn new_dir_id<'p>(moves: &Moves<'p>, item: &Item) -> Option<InodeId>
+    ensures { result ≡ new_dir_id moves.now item.now }
+{
+    if is_new_dir(moves, item) {
+        Some(item.id)
+    } else {
+        None
+    }
+}
+
+#[tactic(auto, using(crate::proofs::RenamedIds::renamed_so))]
+fn is_new_dir<'p>(moves: &Moves<'p>, item: &Item) -> bool
+    ensures { result ≡ (item.now.is_dir && not (renames_id moves.now item.now.id)) }
+{
+    item.is_dir && !moves.has_id(item.id)
 }
