@@ -1,5 +1,5 @@
 -- Directories that wait are listed, one after the other.
-use Rattle.std.proofs.Common.{◌≡◌, ℕ, zero, suc, ◌+◌, ◌≤◌, ◌<◌, Option, Some, None, Result, Ok, Err, List, [], ◌∷◌, ◌++◌, length, drop, slice_get, refl, ap, sym, ◌∙◌, subst, append_assoc, length-append, arith}
+use Rattle.std.proofs.Common.{◌≡◌, ℕ, zero, suc, ◌+◌, ◌≤◌, ◌<◌, Option, Some, None, Result, Ok, Err, List, [], ◌∷◌, ◌++◌, length, drop, get_or, slice_get, refl, ap, sym, ◌∙◌, subst, append_assoc, length-append, arith}
 use mathlib.Core.List.{IsPrefix}
 use Rattle.hs_types.specs.declared.ids.InodeId.{InodeId}
 use Rattle.hs_types.specs.declared.ids.Side.TheVariants.{Source}
@@ -16,9 +16,10 @@ use Rattle.distcp_sync.specs.declared.answer.SyncAnswer.{SyncAnswer}
 use Rattle.distcp_sync.specs.declared.answer.SyncAnswer.TheVariants as answers
 use Rattle.distcp_sync.specs.inside.Trace.{HasRead}
 use Rattle.distcp_sync.specs.inside.Queue.{first_ids, new_ids, AreQueued}
-use Rattle.distcp_sync.specs.inside.Fetching.{IsListCall, IsGotWith, AreUnderWay, WasShown, IsNextListing, IsNextListed, IsQueueCall, AreAllListed}
+use Rattle.distcp_sync.specs.inside.Fetching.{WasListed, IsListCall, IsGotWith, AreUnderWay, WasShown, IsNextListing, IsNextListed, IsQueueCall, AreAllListed}
 use Rattle.page_join.proofs.Chains.{prefix_self}
 use Rattle.distcp_sync.proofs.Heard.{front_length}
+use Rattle.distcp_sync.proofs.PageChains.{read_none}
 use Rattle.distcp_sync.proofs.Gots.{read_then, read_goes, listed_grows, HasGot, has_got, got_behind, got_grows, got_so, got_want}
 
 -- ---- plain lists
@@ -144,3 +145,42 @@ module _ (old now new : Known) (snapshot : SnapId) (page : ℕ) (lines : List Li
 pub listed_all : (old new : Known) (snapshot : SnapId) (lines : List Line) (ids : List InodeId) (listings : List Listing) → AreListedSo old new snapshot lines ids listings → length ids ≤ length listings → AreAllListed (length old.seen) new.seen snapshot lines listings
 listed_all old new snapshot lines ids listings so all =
     all_listed (WasShown (length old.seen) new.seen snapshot) lines (first_ids lines) listings (subst (AreUnderWay (WasShown (length old.seen) new.seen snapshot) lines (first_ids lines) listings) (drop_all ids (length listings) all) so.under_way)
+
+-- ---- the first that waits
+
+index_so : (ids : List InodeId) (k : ℕ) (dir other : InodeId) → slice_get ids k ≡ Some dir → get_or ids k other ≡ dir
+index_so [] k dir other at = absurd (cc)
+index_so (id ∷ ids) zero dir other at = cc
+index_so (id ∷ ids) (suc k) dir other at = index_so ids k dir other at
+
+module _ (snapshot : SnapId) (page : ℕ) (lines : List Line) (old new : Known) (ids ids_then : List InodeId) (listings listings_then : List Listing) (before after : List Look)
+    (own : InodeId) (index : ℕ) (index_is : index ≡ length listings) (own_is : own ≡ get_or ids index own) where
+  abbrev IsOwnCall : Call → Type 0
+  IsOwnCall = IsListCall (places.Frozen own snapshot) page
+
+  abbrev IsOwnNext : Unit {0} → Type 0
+  IsOwnNext = IsNextListing (length old.seen) new.seen snapshot lines own ids ids_then listings listings_then
+
+  abbrev AreOwnItems : List Item → Type 0
+  AreOwnItems = WasListed (length old.seen) new.seen (places.Frozen own snapshot)
+
+  next_so : (result : Result (Unit {0}) SyncAnswer) → IsGotWith Source IsOwnCall IsOwnNext old new before after result → IsNextListed snapshot page lines old new ids ids_then listings listings_then before after result
+  next_so result got dir at =
+      subst (λ (d : InodeId). IsGotWith Source (IsListCall (places.Frozen d snapshot) page) (IsNextListing (length old.seen) new.seen snapshot lines d ids ids_then listings listings_then) old new before after result)
+      (own_is ∙ ap (λ (k : ℕ). get_or ids k own) index_is ∙ index_so ids (length listings) dir own at) got
+
+  -- it wasn't listed
+  pub next_err : (answer : SyncAnswer) → IsGotWith Source IsOwnCall AreOwnItems old new before after (Err answer) → IsNextListed snapshot page lines old new ids ids_then listings listings_then before after (Err answer)
+  next_err answer got = next_so (Err answer) (got_behind Source IsOwnCall AreOwnItems old new before after old IsOwnCall IsOwnNext (read_none old old refl) (λ call asks. asks) answer got)
+
+  module _ (items : List Item) (with : IsGotWith Source IsOwnCall AreOwnItems old new before after (Ok items)) where
+    abbrev got : HasGot AreOwnItems old new before after items
+    got = has_got Source IsOwnCall AreOwnItems old new before after items with
+
+    -- it was listed
+    pub next_ok : ids_then ≡ ids ++ new_ids lines items → listings_then ≡ listings ++ record { dir = own; items = items } ∷ [] → IsNextListed snapshot page lines old new ids ids_then listings listings_then before after (Ok tt)
+    next_ok waiting listed = next_so (Ok tt) (got_so Source IsOwnCall IsOwnNext old new before after got.same got.read tt (record { items = items; shown = got.is; waiting = waiting; listed = listed }))
+
+    -- it was, and then memory ran out
+    pub next_want : IsNextListed snapshot page lines old new ids ids_then listings listings_then before after (Err answers.NoMemory)
+    next_want = next_so (Err answers.NoMemory) (got_want Source IsOwnCall IsOwnNext old new before after got.same got.read)
