@@ -169,3 +169,8 @@ module _ {U : Type 0} (side : Side) (IsAsked : Call → Type 0) (IsContent : U �
 pub err_so : {U : Type 0} (result : Result U SyncAnswer) (answer : SyncAnswer) (P : Result U SyncAnswer → Type 0) → IsErrAnd result (λ given. given ≡ answer) → P (Err answer) → P result
 err_so (Ok content) answer P gives p = absurd gives
 err_so (Err given) answer P gives p = subst (λ (a : SyncAnswer). P (Err a)) (sym gives) p
+
+-- the looks before are the first ones
+pub got_first : {U : Type 0} (side : Side) (IsAsked : Call → Type 0) (IsContent : U → Type 0) (old new : Known) (first before after : List Look) (result : Result U SyncAnswer) → before ≡ first →
+    IsGotWith side IsAsked IsContent old new before after result → IsGotWith side IsAsked IsContent old new first after result
+got_first side IsAsked IsContent old new first before after result same with = record { later = with.later; looks = with.looks ∙ ap (λ (l : List Look). l ++ with.later) same; got = with.got }

@@ -121,6 +121,13 @@ module _ (old now new : Known) (snapshot : SnapId) (page : ℕ) (lines : List Li
             (under_way_so (WasShown (length old.seen) now.seen snapshot) (WasShown (length old.seen) new.seen snapshot) (grown_to got.read) lines (first_ids lines) listings (first.id ∷ drop (length listings + 1) ids) waits) shown));
       }
 
+  -- there is one listing more
+  pub one_longer : IsNextListed snapshot page lines now new ids ids_then listings listings_then before after (Ok tt) → length listings_then ≡ length listings + 1
+  one_longer next =
+      let got : HasGot (IsNextListing (length now.seen) new.seen snapshot lines first.id ids ids_then listings listings_then) now new before after tt =
+      has_got Source (IsListCall (places.Frozen first.id snapshot) page) (IsNextListing (length now.seen) new.seen snapshot lines first.id ids ids_then listings listings_then) now new before after tt (next first.id first.at) in
+      ap length got.is.listed ∙ length-append listings (record { dir = first.id; items = got.is.items } ∷ [])
+
   -- a reply or want of memory ended it
   pub listed_ended : {U : Type 0} (IsContent : U → Type 0) (answer : SyncAnswer) → IsNextListed snapshot page lines now new ids ids_then listings listings_then before after (Err answer) →
       IsGotWith Source (IsQueueCall (length old.seen) new.seen snapshot page lines) IsContent old new before after (Err answer)
