@@ -144,8 +144,8 @@ module _ (start : SyncStart) (page : ℕ) (source reported target : Known) (look
         abbrev got_names : HasGot (WasNamed (length reported.seen) named.seen root_place) reported named looks_base looks_root names
         got_names = has_got Source (IsListCall root_place page) (WasNamed (length reported.seen) named.seen root_place) reported named looks_base looks_root names with_root
 
-        abbrev pub AreListings : Result (List Listing) SyncAnswer → Type 0
-        AreListings result = IsGotWith Source (IsQueueCall (length named.seen) last.seen start.to page lines) (AreAllListed (length named.seen) last.seen start.to lines) named last looks_root looks_then result
+        abbrev pub AreListings : List Line → Result (List Listing) SyncAnswer → Type 0
+        AreListings shown result = IsGotWith Source (IsQueueCall (length named.seen) last.seen start.to page shown) (AreAllListed (length named.seen) last.seen start.to shown) named last looks_root looks_then result
 
         read_named : HasRead source named
         read_named = read_then source reported named got_lines.read got_names.read
@@ -173,16 +173,22 @@ module _ (start : SyncStart) (page : ℕ) (source reported target : Known) (look
                 (subst (λ (l : List Line). AreUnderWay (Lists to.tree) l (first_ids l) asks.listings (asks.dir ∷ asks.rest)) (report_so from to from_is to_is from_own to_own)
                 (under_way_so (WasShown (length named.seen) last.seen start.to) (Lists to.tree) (shown_so to to_is grown) lines (first_ids lines) asks.listings (asks.dir ∷ asks.rest) asks.under_way))
 
-        pub listings_ended : (answer : SyncAnswer) → AreListings (Err answer) → IsFetchedWith start page source last target target_then looks looks_then (Err answer)
-        listings_ended answer with =
+        ends_listing : (answer : SyncAnswer) → AreListings lines (Err answer) → IsFetchedWith start page source last target target_then looks looks_then (Err answer)
+        ends_listing answer with =
             source_ended start page source last target target_then (IsQueueCall (length named.seen) last.seen start.to page lines) (AreAllListed (length named.seen) last.seen start.to lines)
             named read_named got_base.read
             (dir_call (got_grows Source (IsQueueCall (length named.seen) last.seen start.to page lines) (AreAllListed (length named.seen) last.seen start.to lines) named last looks_root looks_then with.later (Err answer) with.got))
             looks looks_root looks_then answer (got_names.same ∙ got_base.same ∙ got_lines.same) with
 
+        pub listings_ended : (shown : List Line) → shown ≡ lines → (answer : SyncAnswer) → AreListings shown (Err answer) → IsFetchedWith start page source last target target_then looks looks_then (Err answer)
+        listings_ended shown same answer with = ends_listing answer (subst (λ (l : List Line). AreListings l (Err answer)) same with)
+
         -- ---- the whole
 
-        module _ (listings : List Listing) (with_listings : AreListings (Ok listings)) where
+        module _ (shown : List Line) (shown_is : shown ≡ lines) (listings : List Listing) (with_shown : AreListings shown (Ok listings)) where
+          abbrev with_listings : AreListings lines (Ok listings)
+          with_listings = subst (λ (l : List Line). AreListings l (Ok listings)) shown_is with_shown
+
           abbrev got_listings : HasGot (AreAllListed (length named.seen) last.seen start.to lines) named last looks_root looks_then listings
           got_listings = has_got Source (IsQueueCall (length named.seen) last.seen start.to page lines) (AreAllListed (length named.seen) last.seen start.to lines) named last looks_root looks_then listings with_listings
 

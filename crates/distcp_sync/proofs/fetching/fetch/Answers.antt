@@ -47,7 +47,7 @@ returns-in_err-listings-clause-fetched g c =
     let last = g.L.NameLink.known c.fetch_listings.new.source in
     err_so c.from_residual-in_err-listings.result c.in_err-listings.field-0.0 (IsFetchedWith c.args.start.now c.args.page source last target target_then c.args.looks.now.items c.fetch_listings.new.looks.items) c.from_residual-in_err-listings.ensures.1
     (listings_ended c.args.start.now c.args.page source reported target c.args.looks.now.items c.fetch_lines.new.looks.items target_then c.fetch_names.new.looks.items c.in_ok-lines.lines c.in_ok-lines.ensures.got named c.fetch_names-2.new.looks.items c.in_ok-old_names.old_names c.in_ok-old_names.ensures.got
-    last c.fetch_listings.new.looks.items c.in_ok-new_names.new_names c.in_ok-new_names.ensures.got c.in_err-listings.field-0.0 c.in_err-listings.ensures.got)
+    last c.fetch_listings.new.looks.items c.in_ok-new_names.new_names c.in_ok-new_names.ensures.got c.items.result.now c.items.ensures c.in_err-listings.field-0.0 c.in_err-listings.ensures.got)
 
 pub returns-clause-stays : goal.returns-clause-stays
 returns-clause-stays g c = (
@@ -65,4 +65,4 @@ returns-clause-fetched g c =
     let named = g.L.NameLink.known c.fetch_names-2.new.link in
     let last = g.L.NameLink.known c.fetch_listings.new.source in
     all_fetched c.args.start.now c.args.page source reported target c.args.looks.now.items c.fetch_lines.new.looks.items target_then c.fetch_names.new.looks.items c.in_ok-lines.lines c.in_ok-lines.ensures.got named c.fetch_names-2.new.looks.items c.in_ok-old_names.old_names c.in_ok-old_names.ensures.got
-    last c.fetch_listings.new.looks.items c.in_ok-new_names.new_names c.in_ok-new_names.ensures.got c.in_ok-listings.listings c.in_ok-listings.ensures.got
+    last c.fetch_listings.new.looks.items c.in_ok-new_names.new_names c.in_ok-new_names.ensures.got c.items.result.now c.items.ensures c.in_ok-listings.listings c.in_ok-listings.ensures.got
