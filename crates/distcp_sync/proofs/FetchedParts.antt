@@ -1,9 +1,8 @@
 -- What a plan is made of is that of the copied trees, and a reply that ends the fetching is of one of its calls.
-use Rattle.std.proofs.Common.{◌≡◌, ℕ, ◌≤◌, Option, Some, None, Result, Ok, Err, List, [], ◌∷◌, ◌++◌, map, length, refl, ap, sym, ◌∙◌, subst, append-nil, arith}
+use Rattle.std.proofs.Common.{◌≡◌, ℕ, ◌≤◌, Result, Ok, Err, List, [], ◌∷◌, ◌++◌, map, length, refl, ap, sym, ◌∙◌, subst, append-nil}
 use mathlib.Core.List.{IsPrefix}
 use Rattle.hs_types.specs.Names.{Names}
 use Rattle.hs_types.specs.declared.ids.InodeId.{InodeId}
-use Rattle.hs_types.specs.declared.ids.Side.{Side}
 use Rattle.hs_types.specs.declared.ids.Side.TheVariants.{Source, Target}
 use Rattle.hs_types.specs.declared.ids.SnapId.{SnapId}
 use Rattle.hs_types.specs.declared.call.Call.{Call}
@@ -13,14 +12,11 @@ use Rattle.hs_types.specs.declared.journal.Entry.{Entry}
 use Rattle.hs_types.specs.declared.reply.Item.{Item}
 use Rattle.hs_types.specs.declared.reply.Line.{Line}
 use Rattle.hs_plain.specs.declared.plan.Listing.{Listing}
-use Rattle.hs_plain.specs.declared.plan.RootNames.{RootNames}
 use Rattle.hs_plain.specs.declared.state.Member.{Member}
 use Rattle.hs_plain.specs.State.{member_with}
-use Rattle.hs_plain.specs.Tree.{Tree, listing}
 use Rattle.hs_plain.specs.Report.{report}
 use Rattle.hs_plain.specs.Replay.{plain_after}
 use Rattle.hs_plain.specs.Plan.{root_names}
-use Rattle.plan_laws.specs.Pair.{IsPair}
 use Rattle.page_join.specs.Links.{Known}
 use Rattle.page_join.proofs.Chains.{prefix_self, prefix_trans}
 use Rattle.copy_workers.specs.declared.copied.Look.{Look}
@@ -28,8 +24,8 @@ use Rattle.distcp_sync.specs.declared.answer.SyncAnswer.{SyncAnswer}
 use Rattle.distcp_sync.specs.declared.fetching.Fetched.{Fetched}
 use Rattle.distcp_sync.specs.declared.start.SyncStart.{SyncStart}
 use Rattle.distcp_sync.specs.inside.Queue.{first_ids, AreQueued, Lists}
-use Rattle.distcp_sync.specs.inside.Trace.{HasRead, AreMembers, IsOfMembers, IsListedDir, IsFetchCall, IsFetched, IsFetchedWith}
-use Rattle.distcp_sync.specs.inside.Fetching.{WasListed, WasNamed, WasReported, begin_report, IsReportCall, IsListCall, IsGot, IsGotWith, AreUnderWay, WasShown, IsQueueCall, AreAllListed}
+use Rattle.distcp_sync.specs.inside.Trace.{HasRead, IsOfMembers, IsListedDir, IsFetchCall, IsFetched, IsFetchedWith}
+use Rattle.distcp_sync.specs.inside.Fetching.{WasNamed, WasReported, begin_report, IsReportCall, IsListCall, IsGot, IsGotWith, AreUnderWay, WasShown, IsQueueCall, AreAllListed}
 use Rattle.distcp_sync.proofs.Heard.{front_length}
 use Rattle.distcp_sync.proofs.Queued.{queue_is_listings, waits_new}
 use Rattle.distcp_sync.proofs.QueueSteps.{under_way_so, queued_so}

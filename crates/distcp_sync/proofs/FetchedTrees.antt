@@ -1,11 +1,10 @@
 -- What was told of copied trees is of those that a link had seen before: later none is changed, though it may be gone.
-use Rattle.std.proofs.Common.{◌≡◌, ℕ, ◌≤◌, ◌&&◌, ◌==◌, Bool, true, false, cond, Option, Some, None, Ok, Err, List, [], ◌∷◌, ◌++◌, length, take, refl, ap, sym, ◌∙◌, subst}
+use Rattle.std.proofs.Common.{◌≡◌, ℕ, ◌≤◌, ◌==◌, Bool, true, false, cond, Option, Some, None, Ok, Err, List, [], ◌∷◌, ◌++◌, length, take, refl, ap, sym, ◌∙◌}
 use Rattle.std.specs.FinMap.Entries.{is_sorted}
 use mathlib.Core.List.{IsPrefix}
 use Rattle.hs_types.specs.Names.{Names}
 use Rattle.hs_types.specs.declared.ids.InodeId.{InodeId}
 use Rattle.hs_types.specs.declared.ids.SnapId.{SnapId}
-use Rattle.hs_types.specs.declared.call.Place.TheVariants as places
 use Rattle.hs_types.specs.declared.journal.Entry.{Entry}
 use Rattle.hs_types.specs.declared.refusal.Refusal.TheVariants.{NotDir}
 use Rattle.hs_types.specs.declared.reply.Item.{Item}
@@ -13,10 +12,10 @@ use Rattle.hs_types.specs.declared.reply.Line.{Line}
 use Rattle.hs_plain.specs.declared.state.Member.{Member}
 use Rattle.hs_plain.specs.declared.state.Node.{Node}
 use Rattle.hs_plain.specs.declared.state.State.{State}
-use Rattle.hs_plain.specs.Asked.{Asked, ◌>>=◌}
+use Rattle.hs_plain.specs.Asked.{Asked}
 use Rattle.hs_plain.specs.Files.{plain_files}
 use Rattle.hs_plain.specs.Tree.{Tree, path_cmp, node_at, is_dir, same_inode, place_of, listing}
-use Rattle.hs_plain.specs.State.{member_with, items_of, items_at}
+use Rattle.hs_plain.specs.State.{member_with, items_of}
 use Rattle.hs_plain.specs.Reading.{is_deleted, copied_tree, tree_below, end_tree}
 use Rattle.hs_plain.specs.Report.{report}
 use Rattle.hs_plain.specs.Replay.{plain_after}

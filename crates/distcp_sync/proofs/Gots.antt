@@ -1,5 +1,5 @@
 -- What was got through one link: a content, or the reply that ends a sync.
-use Rattle.std.proofs.Common.{◌≡◌, ◌⊎◌, inl, inr, ℕ, ◌≤◌, false, Option, Some, None, Result, Ok, Err, List, [], ◌∷◌, ◌++◌, length, take, refl, ap, sym, ◌∙◌, subst, append-nil, length-append, arith}
+use Rattle.std.proofs.Common.{◌≡◌, ℕ, ◌≤◌, false, Result, Ok, Err, List, [], ◌∷◌, ◌++◌, length, take, refl, ap, sym, ◌∙◌, subst, append-nil, arith}
 use Rattle.std.specs.List.{AllByRecursion}
 use Rattle.std.specs.Prelude.{IsErrAnd}
 use Rattle.std.proofs.lemmas.List.{take-append-le}
@@ -14,12 +14,11 @@ use Rattle.hs_types.specs.declared.journal.Entry.{Entry}
 use Rattle.hs_types.specs.declared.reply.Answered.{Answered}
 use Rattle.hs_types.specs.declared.reply.Item.{Item}
 use Rattle.hs_types.specs.declared.reply.Line.{Line}
-use Rattle.hs_plain.specs.Answer.{is_ok_reply}
 use Rattle.hs_plain.specs.Legal.{Said, leaves_entry}
 use Rattle.hs_plain.specs.Reading.{is_deleted, lines_between}
 use Rattle.hs_plain.specs.Replay.{plain_after}
 use Rattle.hs_plain.specs.State.{items_at}
-use Rattle.page_join.specs.Links.{Known, IsCall}
+use Rattle.page_join.specs.Links.{Known}
 use Rattle.page_join.proofs.Chains.{made_then, prefix_trans}
 use Rattle.copy_workers.specs.declared.copied.Look.{Look}
 use Rattle.copy_workers.specs.Calls.{look_at}
@@ -28,7 +27,7 @@ use Rattle.distcp_sync.specs.declared.answer.SyncAnswer.TheVariants as answers
 use Rattle.distcp_sync.specs.declared.contents.Content.{Content}
 use Rattle.distcp_sync.specs.declared.contents.Content.TheVariants.{Whole, Ended}
 use Rattle.distcp_sync.specs.Told.{answer_at, OrNoMemory}
-use Rattle.distcp_sync.specs.inside.Trace.{HasRead, IsLookedBad}
+use Rattle.distcp_sync.specs.inside.Trace.{HasRead}
 use Rattle.distcp_sync.specs.inside.Fetching.{WasListed, WasReported, IsRead, IsGot, IsGotWith}
 use Rattle.distcp_sync.proofs.Heard.{Goes, made_goes, front_length}
 

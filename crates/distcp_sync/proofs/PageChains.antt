@@ -1,6 +1,6 @@
 -- Calls for pages, one after the other: what their pages are together, and which reply is no page.
-use Rattle.std.proofs.Common.{◌≡◌, ◌⊎◌, inl, inr, ℕ, ◌≤◌, Bool, true, false, Option, Some, None, is_some, List, [], ◌∷◌, ◌++◌, map, refl, ap, sym, ◌∙◌, subst, append-nil, append_assoc}
-use Rattle.std.specs.List.{flat_map, AllByRecursion}
+use Rattle.std.proofs.Common.{◌≡◌, Bool, true, false, Option, Some, None, is_some, List, [], ◌∷◌, ◌++◌, map, refl, ap, sym, ◌∙◌, subst, append-nil, append_assoc}
+use Rattle.std.specs.List.{flat_map}
 use Rattle.hs_types.specs.declared.call.Call.{Call}
 use Rattle.hs_types.specs.declared.reply.Answered.{Answered}
 use Rattle.hs_types.specs.declared.reply.Reply.{Reply}
@@ -13,7 +13,7 @@ use Rattle.page_join.specs.Paging.{Asks}
 use Rattle.distcp_sync.specs.declared.contents.Content.{Content}
 use Rattle.distcp_sync.specs.declared.contents.Content.TheVariants.{Whole, Ended}
 use Rattle.distcp_sync.specs.inside.Pages.{behind_page, content_of}
-use Rattle.distcp_sync.specs.inside.Trace.{AreUnentered, HasRead}
+use Rattle.distcp_sync.specs.inside.Trace.{HasRead}
 
 -- what a kind of pages has: what a page holds, what it shows, the call for the next one, and why a reply may end them early
 pub record IsPaging {T : Type 0} (page : Reply → Option (List T)) (shown : Reply → List T) (next : Reply → Option Call) (short : Reply → Bool) (IsAsked : Call → Type 0) : Type 0 where

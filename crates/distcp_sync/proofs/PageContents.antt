@@ -1,5 +1,5 @@
 -- What was read of a listing and of a report.
-use Rattle.std.proofs.Common.{◌≡◌, ◌⊎◌, inl, inr, ℕ, ◌≤◌, Bool, true, false, cond, ◌||◌, ◌&&◌, Option, Some, None, is_some, Result, Ok, Err, List, [], ◌∷◌, ◌++◌, map, length, take, drop, refl, ap, sym, ◌∙◌, subst, append-nil}
+use Rattle.std.proofs.Common.{◌≡◌, ◌⊎◌, inl, inr, ℕ, Bool, true, false, ◌||◌, ◌&&◌, Option, Some, None, is_some, Result, Ok, Err, List, [], ◌∷◌, ◌++◌, length, drop, refl, ap, sym, ◌∙◌, subst, append-nil}
 use Rattle.std.specs.List.{flat_map}
 use Rattle.std.specs.Prelude.{IfOk, IsErr}
 use Rattle.hs_types.specs.declared.ids.InodeId.{InodeId}
@@ -11,7 +11,6 @@ use Rattle.hs_types.specs.declared.call.ListCursor.{ListCursor}
 use Rattle.hs_types.specs.declared.call.Place.{Place}
 use Rattle.hs_types.specs.declared.call.Place.TheVariants as places
 use Rattle.hs_types.specs.declared.call.ReportCursor.{ReportCursor}
-use Rattle.hs_types.specs.declared.refusal.Refusal.{Refusal}
 use Rattle.hs_types.specs.declared.refusal.Refusal.TheVariants.{Gone}
 use Rattle.hs_types.specs.declared.reply.Answered.{Answered}
 use Rattle.hs_types.specs.declared.reply.Item.{Item}
@@ -19,12 +18,11 @@ use Rattle.hs_types.specs.declared.reply.Line.{Line}
 use Rattle.hs_types.specs.declared.reply.Reply.{Reply}
 use Rattle.hs_types.specs.declared.reply.Reply.TheVariants as replies
 use Rattle.hs_plain.specs.declared.state.State.{State}
-use Rattle.hs_plain.specs.Answer.{answer, claimed, blanked, is_modifying, uses_store, is_ok_reply, is_plain_reply}
-use Rattle.hs_plain.specs.Legal.{Said, leaves_entry}
+use Rattle.hs_plain.specs.Answer.{answer, claimed, blanked, is_modifying, uses_store, is_plain_reply}
+use Rattle.hs_plain.specs.Legal.{Said}
 use Rattle.hs_plain.specs.Joined.{AreJoined, known_state, last_page, items_shown, list_cursor, is_page, lines_shown, report_cursor, is_report, gone_or_no_memory}
 use Rattle.hs_plain.specs.JoinedPages.{IsJoinedListing, has_now, gone_or_moved}
 use Rattle.hs_plain.specs.Reading.{is_deleted, lines_between}
-use Rattle.hs_plain.specs.Replay.{plain_after}
 use Rattle.hs_plain.proofs.ValidShapes.{true_false}
 use Rattle.hs_plain.proofs.Paged.{observed}
 use Rattle.sync_laws.proofs.Gone.{reports-gone}
@@ -32,13 +30,11 @@ use Rattle.page_join.specs.declared.paging.Paging.{Paging}
 use Rattle.page_join.specs.declared.paging.Paging.TheVariants.{Items, Lines}
 use Rattle.page_join.specs.declared.starts.ListStart.TheVariants as list
 use Rattle.page_join.specs.declared.starts.ReportStart.TheVariants as reported
-use Rattle.page_join.specs.Links.{Known, IsCall}
+use Rattle.page_join.specs.Links.{Known}
 use Rattle.page_join.specs.Paging.{call_at, next_call, AreCutOff}
-use Rattle.page_join.specs.Contents.{list_call, report_call, AreListed, AreReported}
+use Rattle.page_join.specs.Contents.{AreListed, AreReported}
 use Rattle.distcp_sync.specs.declared.contents.Content.{Content}
-use Rattle.distcp_sync.specs.declared.contents.Content.TheVariants.{Whole, Ended}
 use Rattle.distcp_sync.specs.inside.Pages.{items_of_page, lines_of_page, content_of}
-use Rattle.distcp_sync.specs.inside.Trace.{HasRead}
 use Rattle.distcp_sync.specs.inside.Fetching.{WasListed, WasReported, IsListCall, IsReportCall, IsRead}
 use Rattle.distcp_sync.proofs.PageReplies.{IsSameReport, quiet_call, list_ended, list_goes_on, report_ended, report_goes_on}
 use Rattle.distcp_sync.proofs.PageChains.{IsPaging, IsJoin, join, all_read}

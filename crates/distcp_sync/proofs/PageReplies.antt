@@ -16,9 +16,9 @@ use Rattle.hs_plain.specs.declared.state.State.{State}
 use Rattle.hs_plain.specs.Asked.{Asked, ◌>>=◌, refuse_if}
 use Rattle.hs_plain.specs.State.{is_snapshottable, items_at}
 use Rattle.hs_plain.specs.Pages.{items_behind, next_cursor, last_name, page_of, next_lines, lines_page}
-use Rattle.hs_plain.specs.Reading.{is_gone, is_deleted, is_foreign, has_moved, began_at, lines_between, report_page}
+use Rattle.hs_plain.specs.Reading.{is_gone, is_deleted, is_foreign, has_moved, began_at, lines_between}
 use Rattle.hs_plain.specs.Answer.{Origin, origin_of, is_machine, is_store, answer, reply_to, blanked, claimed, is_modifying, uses_store, is_ok_reply, is_store_fault}
-use Rattle.hs_plain.specs.Legal.{Said, leaves_entry}
+use Rattle.hs_plain.specs.Legal.{leaves_entry}
 use Rattle.hs_plain.specs.Joined.{known_state, list_cursor, report_cursor}
 use Rattle.hs_plain.proofs.Answers.{answers_own}
 use Rattle.hs_plain.proofs.Facts.{some_of}

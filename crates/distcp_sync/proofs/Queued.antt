@@ -1,5 +1,5 @@
 -- A queue of new directories, told by lines alone, gives the listings of a plan.
-use Rattle.std.proofs.Common.{◌≡◌, ◌⊎◌, inl, inr, ℕ, zero, suc, ◌+◌, ◌≤◌, ◌<◌, true, false, cond, Option, Some, None, is_some, List, [], ◌∷◌, ◌++◌, map, length, refl, ap, sym, subst, ◌∙◌, arith}
+use Rattle.std.proofs.Common.{◌≡◌, ◌⊎◌, inl, inr, ℕ, zero, suc, ◌≤◌, ◌<◌, true, false, cond, Option, Some, None, is_some, List, [], ◌∷◌, ◌++◌, map, length, refl, ap, sym, subst, ◌∙◌, arith}
 use Rattle.std.specs.Prelude.{not, ◌&&◌, take}
 use Rattle.std.specs.List.{filter_map, cons_option, AllByRecursion}
 use Rattle.std.specs.Option.{option_map}
@@ -22,16 +22,16 @@ use Rattle.hs_plain.proofs.ValidHeld.{in-tree, found_place}
 use Rattle.plan_laws.specs.Pair.{IsPair}
 use Rattle.plan_laws.specs.Listed.{IsNew}
 use Rattle.plan_laws.specs.Translated.{renames_id}
-use Rattle.plan_laws.proofs.Paths.{by, by_one}
+use Rattle.plan_laws.proofs.Paths.{by}
 use Rattle.plan_laws.proofs.Places.{path_of_place, place_of-here}
 use Rattle.plan_laws.proofs.NewItems.{renamed-id}
 use Rattle.plan_laws.proofs.Listed.{below-so, lines-tell, no-line-of}
-use Rattle.plan_laws.proofs.Distinct.{IsOnce, once-few}
+use Rattle.plan_laws.proofs.Distinct.{once-few}
 use Rattle.plan_laws.proofs.Waiting.{IsNewDir, root-old, listed-new, listed-once}
 use Rattle.plan_laws.proofs.FirstDirs.{first_dirs, are-first}
 use Rattle.distcp_sync.specs.Synced.{IsNewDir as IsNewThere}
 use Rattle.distcp_sync.specs.inside.Fetching.{AreUnderWay}
-use Rattle.distcp_sync.specs.inside.Queue.{created_dir_id, first_ids, new_dir_id, new_ids, AreQueued, Lists, QueueIsListings}
+use Rattle.distcp_sync.specs.inside.Queue.{created_dir_id, first_ids, new_dir_id, new_ids, AreQueued, Lists}
 
 take-all : {X : Type 0} (n : ℕ) (xs : List X) → length xs ≤ n → take n xs ≡ xs
 take-all zero [] h = refl

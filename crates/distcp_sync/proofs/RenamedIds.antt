@@ -1,5 +1,5 @@
 -- An `R` line with a target has an id in the words of the plan and in those of its laws.
-use Rattle.std.proofs.Common.{◌≡◌, Bool, true, false, ◌&&◌, ◌||◌, Option, Some, None, List, [], ◌∷◌, refl, ap, ◌∙◌}
+use Rattle.std.proofs.Common.{◌≡◌, ◌&&◌, ◌||◌, Option, Some, None, List, [], ◌∷◌, refl, ap, ◌∙◌}
 use Rattle.hs_types.specs.Names.{Names}
 use Rattle.hs_types.specs.declared.ids.InodeId.{InodeId}
 use Rattle.hs_types.specs.declared.reply.Line.{Line}
@@ -7,7 +7,7 @@ use Rattle.hs_types.specs.declared.reply.LineKind.{LineKind}
 use Rattle.hs_types.specs.declared.reply.LineKind.TheVariants.{Deleted, Renamed, Modified, Created}
 use Rattle.hs_plain.specs.Tree.{same_inode}
 use Rattle.plan_laws.specs.Translated.{is_renaming, renames_id}
-use Rattle.distcp_plan.specs.Planned.{target_by, target_of, has_id, renames}
+use Rattle.distcp_plan.specs.Planned.{target_by, has_id, renames}
 
 one_so : (kind : LineKind) (to : Option Names) (one id : InodeId) → has_id (target_by kind to) one id ≡ (is_renaming kind to && same_inode one id)
 one_so Renamed (Some to) one id = refl

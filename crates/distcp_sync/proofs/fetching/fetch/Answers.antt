@@ -33,7 +33,7 @@ returns-in_err-new_names-clause-fetched g c =
 pub returns-in_err-listings-clause-stays : goal.returns-in_err-listings-clause-stays
 returns-in_err-listings-clause-stays g c = (
   g.met.L.NameLink.stays_then c.args.source.now c.fetch_lines.new.source c.fetch_listings.new.source c.fetch_lines.ensures.stays
-  (g.met.L.NameLink.stays_then c.fetch_lines.new.source c.fetch_names-2.new.link c.fetch_listings.new.source c.fetch_names-2.ensures.stays c.fetch_listings.ensures.stays),
+      (g.met.L.NameLink.stays_then c.fetch_lines.new.source c.fetch_names-2.new.link c.fetch_listings.new.source c.fetch_names-2.ensures.stays c.fetch_listings.ensures.stays),
   c.fetch_names.ensures.stays,
 )
 
@@ -52,7 +52,7 @@ returns-in_err-listings-clause-fetched g c =
 pub returns-clause-stays : goal.returns-clause-stays
 returns-clause-stays g c = (
   g.met.L.NameLink.stays_then c.args.source.now c.fetch_lines.new.source c.fetch_listings.new.source c.fetch_lines.ensures.stays
-  (g.met.L.NameLink.stays_then c.fetch_lines.new.source c.fetch_names-2.new.link c.fetch_listings.new.source c.fetch_names-2.ensures.stays c.fetch_listings.ensures.stays),
+      (g.met.L.NameLink.stays_then c.fetch_lines.new.source c.fetch_names-2.new.link c.fetch_listings.new.source c.fetch_names-2.ensures.stays c.fetch_listings.ensures.stays),
   c.fetch_names.ensures.stays,
 )
 

@@ -2,7 +2,7 @@ use Rattle.std.proofs.Common.{None}
 use Rattle.hs_types.specs.declared.call.Call.TheVariants as calls
 use Rattle.hs_types.specs.declared.call.Place.TheVariants as places
 use Rattle.page_join.specs.declared.paging.Paging.TheVariants.{Items}
-use Rattle.distcp_sync.specs.inside.Fetching.{WasListed, IsListCall}
+use Rattle.distcp_sync.specs.inside.Fetching.{IsListCall}
 use Rattle.distcp_sync.proofs.PageContents.{cut_read, list_joined}
 use Rattle.distcp_sync.proofs.fetching.list_items.Goals as goal
 
