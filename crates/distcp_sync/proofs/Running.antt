@@ -161,3 +161,14 @@ module _ (start : SyncStart) (root : List ℕ) (plan : Plan) where
         looks_is = tried.looks_are ∙ ap (λ (l : List Look). l ++ tried.later) moved.looks_stay;
         carried = subst (λ (ms : List Made). IsCarried start root plan source source_then target target_last ms copies tried.later (answer_of result)) (sym tried.made) (ending target_last tried.added tried.later result tried.tried);
       }
+
+-- ---- the report
+
+pub run_reported : (job : SyncJob) (source source_then target target_then : Known) (result : Result (Unit {0}) SyncAnswer) (moves told_moves : List Made) (copies told_copies : List Copied) (looks told_looks : List Look) (answer : SyncAnswer) →
+    answer ≡ answer_of result → told_moves ≡ moves → told_copies ≡ copies → told_looks ≡ looks → IsRun job source source_then target target_then (report_of result moves copies looks) →
+    IsRun job source source_then target target_then (record { answer = answer; moves = told_moves; copies = told_copies; looks = told_looks })
+run_reported job s s2 t t2 result moves told_moves copies told_copies looks told_looks answer told ms cs ls ran =
+    subst (λ (a : SyncAnswer). IsRun job s s2 t t2 (record { answer = a; moves = told_moves; copies = told_copies; looks = told_looks })) (sym told)
+    (subst (λ (l : List Made). IsRun job s s2 t t2 (record { answer = answer_of result; moves = l; copies = told_copies; looks = told_looks })) (sym ms)
+    (subst (λ (l : List Copied). IsRun job s s2 t t2 (record { answer = answer_of result; moves = moves; copies = l; looks = told_looks })) (sym cs)
+    (subst (λ (l : List Look). IsRun job s s2 t t2 (record { answer = answer_of result; moves = moves; copies = copies; looks = l })) (sym ls) ran)))
