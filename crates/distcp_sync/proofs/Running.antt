@@ -23,8 +23,8 @@ pub err_from : {A : Type 0} (P : Result A SyncAnswer → Type 0) (result : Resul
 err_from P (Ok done) answer gives p = absurd gives
 err_from P (Err given) answer gives p = subst (λ (a : SyncAnswer). P (Err a)) (sym gives) p
 
-err_ok : (answer : SyncAnswer) → Result.Err answer ≡ Ok tt → ⊥
-err_ok answer e = cc
+err_ok : (answer : SyncAnswer) (result : Result (Unit {0}) SyncAnswer) → result ≡ Err answer → result ≡ Ok tt → ⊥
+err_ok answer result is ok = cc
 
 -- ---- the plan
 
@@ -125,7 +125,7 @@ module _ (start : SyncStart) (root : List ℕ) (plan : Plan) where
     -- copies that ended early
     copying : (source_then target_then : Known) (first more copies : List Copied) (ended : Option Look) (answer : SyncAnswer) → first ≡ [] → copies ≡ first ++ more → AreCopied start.to root 0 plan.copies source source_then target_now target_then more ended → EndsBy ended (Err answer) →
         IsCarried start root plan source source_then target target_then moves copies [] answer
-    copying source_then target_then first more copies None answer no_first copies_are copied ends = absurd (err_ok answer ends)
+    copying source_then target_then first more copies None answer no_first copies_are copied ends = absurd (err_ok answer (Err answer) refl ends)
     copying source_then target_then first more copies (Some look) answer no_first copies_are copied ends =
         IsCarried.copying target_now moves copies look answer moves_done (subst (λ (cs : List Copied). AreCopied start.to root 0 plan.copies source source_then target_now target_then cs (Some look)) (sym (copies_are ∙ ap (λ (l : List Copied). l ++ more) no_first)) copied) ends
 
