@@ -1,5 +1,5 @@
 //! What a plan is made of: the source's report, the listings of its new directories, and the names in both roots.
-ghost use Rattle.std.specs.Prelude.{◌≡◌, ◌<◌, IfOk, vec_len, vec_capacity};
+ghost use Rattle.std.specs.Prelude.{◌≡◌, ◌<◌, OnOk, vec_len, vec_capacity};
 ghost use Rattle.distcp_sync.specs.inside.Trace.{IsFetchedWith};
 
 use crate::answer::SyncAnswer;
@@ -41,7 +41,7 @@ pub(crate) fn fetch<L: NameLink>(
     ensures alone { (L.alone source.new ≡ L.alone source.old) × (L.alone target.new ≡ L.alone target.old) }
     ensures stays { (L.stays source.old source.new) × (L.stays target.old target.new) }
     ensures fetched { IsFetchedWith start.now page (L.known source.old) (L.known source.new) (L.known target.old) (L.known target.new) looks.old.items looks.new.items result }
-    ensures room { IfOk result (λ _. (looks.new.items ≡ looks.old.items) × (vec_capacity looks.new ≡ vec_capacity looks.old)) }
+    ensures same { OnOk result (looks.new ≡ looks.old) }
 {
     let lines = fetch_lines(alloc, start, page, source, looks)?;
     let roots = fetch_roots(alloc, start, page, source, target, looks)?;
