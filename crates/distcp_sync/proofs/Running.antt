@@ -4,7 +4,7 @@ use Rattle.std.specs.Result.{IsErrAnd}
 use Rattle.hs_types.specs.declared.call.Call.{Call}
 use Rattle.hs_plain.specs.declared.plan.Plan.{Plan}
 use Rattle.hs_plain.specs.Plan.{move_calls, last_call}
-use Rattle.page_join.specs.Links.{Known, IsLawful}
+use Rattle.page_join.specs.Links.{Known}
 use Rattle.copy_workers.specs.declared.copied.Made.{Made}
 use Rattle.copy_workers.specs.declared.copied.Look.{Look}
 use Rattle.copy_workers.specs.declared.copied.Copied.{Copied}
@@ -75,6 +75,9 @@ run_wanting job source target moves copies looks no_moves no_copies no_looks =
     (subst (λ (l : List Look). IsBegun job source source target target l (Err answers.NoMemory)) (sym no_looks) (IsBegun.no_first refl refl))
 
 -- ---- the calls of a plan
+
+pub none_still : (before after : List Copied) → after ≡ before → before ≡ [] → after ≡ []
+none_still before after same none = same ∙ none
 
 -- calls that were all done
 pub record HasDone (old new : Known) (planned : List Call) (before after : List Made) (looked looks : List Look) : Type 0 where

@@ -1,5 +1,5 @@
 //! A sync through one pair of links.
-ghost use Rattle.std.specs.Prelude.{◌≡◌, ◌+◌, ◌≤◌, ◌<◌, [], length, IfOk, IfErr, OnOk, vec_len, vec_capacity};
+ghost use Rattle.std.specs.Prelude.{◌≡◌, ◌+◌, ◌≤◌, ◌<◌, [], length, IfErr, OnOk, vec_len, vec_capacity};
 ghost use Rattle.distcp_sync.specs.declared.answer.SyncAnswer.TheVariants as answers;
 ghost use Rattle.distcp_sync.specs.inside.Ran.{answer_of, report_of, HasPlan, IsPlanOf, HasCarried};
 ghost use Rattle.distcp_sync.specs.inside.Trace.{IsRun};

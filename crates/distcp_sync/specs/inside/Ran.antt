@@ -1,5 +1,5 @@
 -- The parts of a run: its plan, what it did with the plan, and its report. For proofs and private contracts alone.
-use Rattle.std.specs.Prelude.{◌≡◌, ℕ, List, [], ◌∷◌, ◌++◌, Option, Some, None, Result, Ok, Err}
+use Rattle.std.specs.Prelude.{◌≡◌, ℕ, List, [], ◌++◌, Result, Ok, Err}
 use Rattle.hs_plain.specs.declared.plan.Plan.{Plan}
 use Rattle.page_join.specs.Links.{Known}
 use Rattle.distcp_plan.specs.Laws.{IsOfTheirPaths}
