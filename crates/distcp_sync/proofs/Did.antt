@@ -92,7 +92,7 @@ some_of : (x e : Entry) → Some x ≡ Some e → x ≡ e
 some_of x e same = cc
 
 -- the entry at a place of a proper journal is of a call of its kind
-fits_at : (state : State (List ℕ)) (journal : List Entry) (i : ℕ) (entry : Entry) → proper_from state journal ≡ true → slice_get journal i ≡ Some entry → fits_kind entry.kind entry.call ≡ true
+pub fits_at : (state : State (List ℕ)) (journal : List Entry) (i : ℕ) (entry : Entry) → proper_from state journal ≡ true → slice_get journal i ≡ Some entry → fits_kind entry.kind entry.call ≡ true
 fits_at state [] i entry proper there = absurd (cc)
 fits_at state (e ∷ journal) zero entry proper there =
     ap (λ (e : Entry). fits_kind e.kind e.call) (sym (some_of e entry there)) ∙ both_first (fits_kind e.kind e.call) (is_ok_reply (answer state e.call)) (both_first (may_follow state e) (proper_from (after plain_files state e) journal) proper)

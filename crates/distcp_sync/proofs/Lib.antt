@@ -15,6 +15,9 @@ mod Firsts
 mod CopiesWrote
 mod CopyChain
 mod Written
+mod WrittenCalls
+mod WrittenMade
+mod WrittenEnds
 mod Runs
 mod Queued
 pub mod Replied

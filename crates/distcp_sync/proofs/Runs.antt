@@ -31,6 +31,8 @@ use Rattle.distcp_sync.proofs.Firsts.{made_rise}
 use Rattle.distcp_sync.proofs.CopiesWrote.{copies_did}
 use Rattle.distcp_sync.proofs.CopyChain.{AreCut}
 use Rattle.distcp_sync.proofs.Written.{written}
+use Rattle.distcp_sync.proofs.WrittenEnds.{ended_so}
+use Rattle.distcp_sync.proofs.WrittenCalls.{carried_calls}
 
 -- a sync that ends in its first steps
 unbegun_told : (job : SyncJob) (source source_then target target_then : Known) (report : SyncReport) → IsLawful source → IsLawful target →

@@ -17,6 +17,7 @@ use Rattle.hs_plain.specs.Tree.{Tree, is_dir, place_of}
 use Rattle.hs_plain.specs.State.{member_with}
 use Rattle.hs_plain.specs.Answer.{is_ok_reply}
 use Rattle.hs_plain.specs.Joined.{lines_shown}
+use Rattle.hs_plain.specs.Legal.{reach_of}
 use Rattle.hs_plain.specs.Premises.{SyncAsk}
 use Rattle.hs_plain.specs.Plan.{plan_calls, bad_paths}
 use Rattle.copy_workers.specs.Calls.{wanting_of}
@@ -90,12 +91,13 @@ module _ (ask : SyncAsk) (page : ℕ) (sides : SyncSides) (report : SyncReport) 
     moved : (call : Call) → bad_paths (planned start one two trees) ≡ [] → IsNext sides.source_tells made.rest call → up_to_last made.made ≤ look.reply.position →
         IsHeard sides Target call look → IsLastLook start one two trees made look
 
-  -- what ended the copies: want of memory for a call that wasn't made, a read of the file of the last job, or the next call of the plan
+  -- what ended the copies: want of memory for a call that wasn't made, a read of the file of the last job, or the next call of the plan, which then
+  -- knows all that was made, the entry of its own fault too
   pub data IsCopyLook (start : SyncStart) (one two : Look) (trees : HasTrees start one two) (made : HasMade start one two trees) (look : Look) : Type 0 where
     by_memory : look ≡ wanting_of look.side look.caller → IsCopyLook start one two trees made look
     by_read : (number offset : ℕ) (job : CopyJob) → slice_get (jobs start one two trees) number ≡ Some job → length report.copies ≡ number + 1 →
         IsHeard sides Source (calls.ReadNext (record { place = places.Frozen job.id start.to; offset = offset }) 65536) look → IsCopyLook start one two trees made look
-    by_write : (call : Call) → IsNext sides.source_tells made.rest call → up_to_last made.made ≤ look.reply.position → IsHeard sides Target call look → IsCopyLook start one two trees made look
+    by_write : (call : Call) → IsNext sides.source_tells made.rest call → up_to_last made.made ≤ reach_of call look.reply → IsHeard sides Target call look → IsCopyLook start one two trees made look
 
   -- a sync that no reply ended
   pub data EndsAlone (start : SyncStart) (one two : Look) (trees : HasTrees start one two) (made : HasMade start one two trees) : Type 0 where
