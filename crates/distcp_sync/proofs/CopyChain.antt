@@ -34,10 +34,10 @@ abbrev pub jobs_calls : List ℕ → (CopyJob → List ℕ) → List CopyJob →
 jobs_calls root bytes jobs = flat_map (λ calls. calls) (map (job_calls root bytes) jobs)
 
 -- a call that was looked at behind others stays so behind further ones
-last_later : (side : Side) (older old new : Known) (call : Call) (look : Look) → Goes older old → IsLastLooked side old new call look → IsLastLooked side older new call look
+pub last_later : (side : Side) (older old new : Known) (call : Call) (look : Look) → Goes older old → IsLastLooked side old new call look → IsLastLooked side older new call look
 last_later side older old new call look goes last = record { now = last.now; before = goes_then older old last.now goes last.before; looked = last.looked }
 
-cut_later : (snap : SnapId) (job : CopyJob) (source source_now source_then target target_now target_then : Known) (look : Look) (failed : Option Said) → Goes source source_now → Goes target target_now →
+pub cut_later : (snap : SnapId) (job : CopyJob) (source source_now source_then target target_now target_then : Known) (look : Look) (failed : Option Said) → Goes source source_now → Goes target target_now →
     IsCut snap job source_now source_then target_now target_then look failed → IsCut snap job source source_then target target_then look failed
 cut_later snap job s sn s2 t tn t2 look failed at_source at_target (IsCut.by_memory is) = IsCut.by_memory is
 cut_later snap job s sn s2 t tn t2 look failed at_source at_target (IsCut.by_read offset last) = IsCut.by_read offset (last_later _ s sn s2 _ look at_source last)
