@@ -5,10 +5,10 @@ mod Did
 mod Begun
 mod Unmade
 mod Fetches
--- Shown, Trees and OfTrees are proved (by the other helper, also in /tmp/h/trees with his Unplanned.antt): use fetched_of, begun_own, members_of of OfTrees
 mod Shown
 mod Trees
 mod OfTrees
+mod Unplanned
 mod Entered
 mod Wrote
 mod Firsts

@@ -33,6 +33,7 @@ use Rattle.distcp_sync.proofs.CopyChain.{AreCut}
 use Rattle.distcp_sync.proofs.Written.{written}
 use Rattle.distcp_sync.proofs.WrittenEnds.{ended_so}
 use Rattle.distcp_sync.proofs.WrittenCalls.{carried_calls}
+use Rattle.distcp_sync.proofs.Unplanned.{unplanned_within}
 
 -- a sync that ends in its first steps
 unbegun_told : (job : SyncJob) (source source_then target target_then : Known) (report : SyncReport) → IsLawful source → IsLawful target →
@@ -87,10 +88,9 @@ runs_are_told job s s2 t t2 report ls lt (unfetched start sn tn looks later begu
   unmade_calls s s2 t t2 report (fetched_calls job start s sn s2 t tn t2 looks later (Ok start) (Err report.answer) ls lt begun got) moves copies,
   unfetched_within job start s sn s2 t tn t2 report looks later ls lt begun got all moves copies,
 )
--- open: HasWorked by told_begin and trees_told, none_made of Fetches, and EndsAlone.limit or wanting: the plan's bad paths by IsOfTheirPaths over IsOfMembers
 runs_are_told job s s2 t t2 report ls lt (unplanned start sn tn what fault begun got paths answer moves copies) = (
   unmade_calls s s2 t t2 report (fetched_calls job start s sn s2 t tn t2 report.looks [] (Ok start) (Ok what) ls lt begun got) moves copies,
-  ?,
+  unplanned_within job start s sn s2 t tn t2 report what fault ls lt begun got paths answer moves copies,
 )
 -- open: did_made and named_places give the calls of AreDone and StopsAt their places, CallsOfCopy those of the copies; then AreEntries, AreFirst of
 -- move_calls, the copies' calls (CopyOfFrozenIsFront) and last_call, and Ended
