@@ -18,6 +18,8 @@ mod Written
 mod WrittenCalls
 mod WrittenMade
 mod WrittenEnds
+mod PlanFiles
+mod Carried
 mod Runs
 mod Queued
 pub mod Replied

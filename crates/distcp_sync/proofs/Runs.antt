@@ -1,6 +1,7 @@
 -- From the way of the code to what a sync tells.
 use Rattle.std.proofs.Common.{◌≡◌, ℕ, List, [], ◌∷◌, ◌++◌, Result, Ok, Err, refl, ap, sym, ◌∙◌, subst}
 use Rattle.page_join.specs.Links.{Known, IsLawful}
+use Rattle.copy_workers.specs.CopyLaws.{CallsOfCopy, CopyOfFrozenIsFront}
 use Rattle.copy_workers.specs.declared.copied.Look.{Look}
 use Rattle.distcp_sync.specs.declared.fetching.Fetched.{Fetched}
 use Rattle.distcp_sync.specs.declared.report.SyncJob.{SyncJob}
@@ -26,13 +27,7 @@ use Rattle.distcp_sync.proofs.Did.{Did}
 use Rattle.distcp_sync.proofs.Begun.{DidBoth, did_begin, told_begin, told_unbegun}
 use Rattle.distcp_sync.proofs.Fetches.{by_look, by_want}
 use Rattle.distcp_sync.proofs.Unmade.{did_fetch, both_then, unmade_calls}
-use Rattle.distcp_sync.proofs.Wrote.{WroteAll}
-use Rattle.distcp_sync.proofs.Firsts.{made_rise}
-use Rattle.distcp_sync.proofs.CopiesWrote.{copies_did}
-use Rattle.distcp_sync.proofs.CopyChain.{AreCut}
-use Rattle.distcp_sync.proofs.Written.{written}
-use Rattle.distcp_sync.proofs.WrittenEnds.{ended_so}
-use Rattle.distcp_sync.proofs.WrittenCalls.{carried_calls}
+use Rattle.distcp_sync.proofs.Carried.{carried_told, carried_within}
 use Rattle.distcp_sync.proofs.Unplanned.{unplanned_within}
 
 -- a sync that ends in its first steps
@@ -82,16 +77,18 @@ unfetched_within job start s sn s2 t tn t2 report looks later ls lt begun got al
     (own_added sides.target_tells sides.target t t2 [] around_t whole.at_target.goes whole.at_target.places) refl
     (trees_told job job.page sides report start s sn s2 t now t2 one two around_s around_t roots further.at_source.goes (goes_then now tn t2 third further.at_target.goes) is) got))
 
-pub runs_are_told : RunsAreTold
-runs_are_told job s s2 t t2 report ls lt (unbegun begun moves copies) = unbegun_told job s s2 t t2 report ls lt begun moves copies
-runs_are_told job s s2 t t2 report ls lt (unfetched start sn tn looks later begun got all moves copies) = (
+-- by the laws of a copy
+pub runs_are_told : CallsOfCopy → CopyOfFrozenIsFront → RunsAreTold
+runs_are_told calls is_front job s s2 t t2 report ls lt (unbegun begun moves copies) = unbegun_told job s s2 t t2 report ls lt begun moves copies
+runs_are_told calls is_front job s s2 t t2 report ls lt (unfetched start sn tn looks later begun got all moves copies) = (
   unmade_calls s s2 t t2 report (fetched_calls job start s sn s2 t tn t2 looks later (Ok start) (Err report.answer) ls lt begun got) moves copies,
   unfetched_within job start s sn s2 t tn t2 report looks later ls lt begun got all moves copies,
 )
-runs_are_told job s s2 t t2 report ls lt (unplanned start sn tn what fault begun got paths answer moves copies) = (
+runs_are_told calls is_front job s s2 t t2 report ls lt (unplanned start sn tn what fault begun got paths answer moves copies) = (
   unmade_calls s s2 t t2 report (fetched_calls job start s sn s2 t tn t2 report.looks [] (Ok start) (Ok what) ls lt begun got) moves copies,
   unplanned_within job start s sn s2 t tn t2 report what fault ls lt begun got paths answer moves copies,
 )
--- open: did_made and named_places give the calls of AreDone and StopsAt their places, CallsOfCopy those of the copies; then AreEntries, AreFirst of
--- move_calls, the copies' calls (CopyOfFrozenIsFront) and last_call, and Ended
-runs_are_told job s s2 t t2 report ls lt (carried start sn sr tn tr what plan looks later begun got planned does all) = ?
+runs_are_told calls is_front job s s2 t t2 report ls lt (carried start sn sr tn tr what plan looks later begun got planned does all) = (
+  carried_told calls is_front job start s sn sr s2 t tn tr t2 report what plan looks later ls lt begun got planned does,
+  carried_within calls is_front job start s sn sr s2 t tn tr t2 report what plan looks later ls lt begun got planned does all,
+)

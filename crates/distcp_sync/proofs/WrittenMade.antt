@@ -61,7 +61,7 @@ jobs_modify root bytes [] = tt
 jobs_modify root bytes (job ∷ jobs) =
     each-append Modifies (copy_calls root job.to (bytes job)) (jobs_calls root bytes jobs) (refl, pages_modify (text_below root job.to) (pages_of (length (bytes job)) (bytes job))) (jobs_modify root bytes jobs)
 
-plan_modifies : (root : List ℕ) (plan : Plan) (bytes : CopyJob → List ℕ) → AllByRecursion Modifies (calls_with root plan bytes)
+pub plan_modifies : (root : List ℕ) (plan : Plan) (bytes : CopyJob → List ℕ) → AllByRecursion Modifies (calls_with root plan bytes)
 plan_modifies root plan bytes =
     each-append Modifies (move_calls root plan) (jobs_calls root bytes plan.copies ++ last_call root plan ∷ [])
     (refl, each-append Modifies (out_calls root plan 0 plan.outs) (map (put_call root plan) plan.puts) (outs_modify root plan 0 plan.outs) (puts_modify root plan plan.puts))
