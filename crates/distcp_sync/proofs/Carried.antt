@@ -1,22 +1,20 @@
 -- A sync that made calls of its plan.
-use Rattle.std.proofs.Common.{◌≡◌, ◌⊎◌, inl, inr, ℕ, Bool, true, false, Option, Some, None, Ok, List, [], ◌∷◌, ◌++◌, length, refl, ap, sym, ◌∙◌, subst}
+use Rattle.std.proofs.Common.{◌≡◌, ◌⊎◌, inl, inr, true, None, Ok, List, [], ◌∷◌, ◌++◌, length, refl, ap, sym, ◌∙◌, subst}
 use Rattle.std.specs.List.{AllByRecursion}
 use Rattle.hs_types.specs.Names.{Names}
-use Rattle.hs_plain.specs.declared.plan.CopyJob.{CopyJob}
 use Rattle.hs_plain.specs.declared.plan.Plan.{Plan}
 use Rattle.hs_plain.specs.Plan.{plan_of, plan_calls, bad_paths}
 use Rattle.page_join.specs.Links.{Known, IsLawful}
 use Rattle.copy_workers.specs.CopyLaws.{CallsOfCopy, CopyOfFrozenIsFront}
 use Rattle.copy_workers.specs.declared.copied.Made.{Made}
 use Rattle.copy_workers.specs.declared.copied.Look.{Look}
-use Rattle.distcp_sync.specs.declared.answer.SyncAnswer.{SyncAnswer}
 use Rattle.distcp_sync.specs.declared.fetching.Fetched.{Fetched}
 use Rattle.distcp_sync.specs.declared.report.SyncJob.{SyncJob}
 use Rattle.distcp_sync.specs.declared.report.SyncReport.{SyncReport}
 use Rattle.distcp_sync.specs.declared.start.SyncStart.{SyncStart}
 use Rattle.distcp_sync.specs.Told.{ask_of}
 use Rattle.distcp_sync.specs.Steps.{SyncSides, plan_between, ended_copy, are_numbered}
-use Rattle.distcp_sync.specs.Synced.{HasTrees, HasMade, planned, jobs, Ended, HasWorked, First}
+use Rattle.distcp_sync.specs.Synced.{HasTrees, planned, Ended, HasWorked, First}
 use Rattle.distcp_sync.specs.Calls.{AreSyncCalls}
 use Rattle.distcp_sync.specs.Around.{IsAround, IsSyncedWithin}
 use Rattle.distcp_sync.specs.inside.Trace.{IsBegun, IsFetched, IsPlanned, IsCarried}
@@ -41,19 +39,19 @@ module _ (told : CallsOfCopy) (is_front : CopyOfFrozenIsFront) (job : SyncJob) (
     (both : DidBoth source source_read target target_read) (reading : Goes source_now source_read)
     (copied : AreFiles start.to (bytes_in trees.to.tree) source_now (plan_between trees.from trees.to trees.base).copies) (within : bad_paths (planned (ask_of job) job.page sides report start one two trees) ≡ [])
     (does : IsCarried start job.target_root (plan_between trees.from trees.to trees.base) source_read source_then target_read target_then report.moves report.copies looks report.answer) where
-  abbrev plan : Plan
-  plan = plan_between trees.from trees.to trees.base
+  abbrev theirs : Plan
+  theirs = plan_between trees.from trees.to trees.base
 
   abbrev Files : Type 0
-  Files = AreFiles start.to (bytes_in trees.to.tree) source_now plan.copies
+  Files = AreFiles start.to (bytes_in trees.to.tree) source_now theirs.copies
 
   modify : AllByRecursion Modifies (planned (ask_of job) job.page sides report start one two trees)
-  modify = plan_modifies job.target_root plan (bytes_in trees.to.tree)
+  modify = plan_modifies job.target_root theirs (bytes_in trees.to.tree)
 
   numbered : are_numbered 0 report.copies ≡ true
-  numbered = carried_numbered start job.target_root plan source_read source_then target_read target_then report.moves report.copies looks report.answer does
+  numbered = carried_numbered start job.target_root theirs source_read source_then target_read target_then report.moves report.copies looks report.answer does
 
-  by_some : AreSomeWritten start job.target_root plan sides.source_tells (bytes_in trees.to.tree) source_now source_read source_then target_read target_then report.moves report.copies looks report.answer →
+  by_some : AreSomeWritten start job.target_root theirs sides.source_tells (bytes_in trees.to.tree) source_now source_read source_then target_read target_then report.moves report.copies looks report.answer →
       HasWorked (ask_of job) job.page sides report start one two looks
   by_some some =
       let nothing : Type 0 = (some.wrote.wants copied).rest ≡ [] in
@@ -67,11 +65,11 @@ module _ (told : CallsOfCopy) (is_front : CopyOfFrozenIsFront) (job : SyncJob) (
             looks report.answer some.failed refl refl some.ended;
       }
 
-  by_all : AreAllWritten start job.target_root plan sides.source_tells (bytes_in trees.to.tree) source_now source_read source_then target_read target_then report.moves report.copies looks report.answer →
+  by_all : AreAllWritten start job.target_root theirs sides.source_tells (bytes_in trees.to.tree) source_now source_read source_then target_read target_then report.moves report.copies looks report.answer →
       HasWorked (ask_of job) job.page sides report start one two looks
   by_all all =
       let last : List Made = all.deleted ∷ [] in
-      let whole : IsEvery Files sides.source_tells (calls_with job.target_root plan (bytes_in trees.to.tree)) target_read target_then _ = every Files sides.source_tells (calls_with job.target_root plan (bytes_in trees.to.tree)) target_read target_then _ all.wrote in
+      let whole : IsEvery Files sides.source_tells (calls_with job.target_root theirs (bytes_in trees.to.tree)) target_read target_then _ = every Files sides.source_tells (calls_with job.target_root theirs (bytes_in trees.to.tree)) target_read target_then _ all.wrote in
       let nothing : Type 0 = (whole.wrote.wants copied).rest ≡ [] in
       let so : IsMadeSo (ask_of job) job.page sides report start one two trees None last (length target_then.seen) nothing =
       made_so (ask_of job) job.page sides report start one two trees Files source source_read source_then target target_read target_then both around_target all.before last None all.moves_are modify whole.wrote tt copied numbered within in
@@ -86,11 +84,11 @@ module _ (told : CallsOfCopy) (is_front : CopyOfFrozenIsFront) (job : SyncJob) (
 
   worked : HasWorked (ask_of job) job.page sides report start one two looks
   worked =
-      by (written told is_front start job.target_root plan sides.source_tells (bytes_in trees.to.tree) source_now source_read source_then target_read target_then
+      by (written told is_front start job.target_root theirs sides.source_tells (bytes_in trees.to.tree) source_now source_read source_then target_read target_then
       (around_source.tells_is ∙ sym both.at_source.goes.tells) reading report.moves report.copies looks report.answer does)
     where
-      by : AreSomeWritten start job.target_root plan sides.source_tells (bytes_in trees.to.tree) source_now source_read source_then target_read target_then report.moves report.copies looks report.answer
-          ⊎ AreAllWritten start job.target_root plan sides.source_tells (bytes_in trees.to.tree) source_now source_read source_then target_read target_then report.moves report.copies looks report.answer →
+      by : AreSomeWritten start job.target_root theirs sides.source_tells (bytes_in trees.to.tree) source_now source_read source_then target_read target_then report.moves report.copies looks report.answer
+          ⊎ AreAllWritten start job.target_root theirs sides.source_tells (bytes_in trees.to.tree) source_now source_read source_then target_read target_then report.moves report.copies looks report.answer →
           HasWorked (ask_of job) job.page sides report start one two looks
       by (inl some) = by_some some
       by (inr all) = by_all all
@@ -124,6 +122,7 @@ module _ (told : CallsOfCopy) (is_front : CopyOfFrozenIsFront) (job : SyncJob) (
   both : DidBoth source source_read target target_read
   both = both_then source source_now source_read target target_now target_read first further
 
+  -- the calls of such a sync
   pub carried_told : AreSyncCalls source source_then target target_then report
   carried_told = carried_calls source source_read source_then target target_read target_then report both told is_front start job.target_root plan later does
 
@@ -139,6 +138,12 @@ module _ (told : CallsOfCopy) (is_front : CopyOfFrozenIsFront) (job : SyncJob) (
       by (inl some) = made_goes target_read target_then _ some.wrote.wrote
       by (inr all) = made_goes target_read target_then _ all.wrote.wrote
 
+  -- the same of an equal plan
+  carried_as : (one other : Plan) → one ≡ other → IsCarried start job.target_root one source_read source_then target_read target_then report.moves report.copies later report.answer →
+      IsCarried start job.target_root other source_read source_then target_read target_then report.moves report.copies later report.answer
+  carried_as one other same carries = subst (λ (p : Plan). IsCarried start job.target_root p source_read source_then target_read target_then report.moves report.copies later report.answer) same carries
+
+  -- and in all journals around both links
   pub carried_within : report.looks ≡ looks ++ later → IsSyncedWithin source source_then target target_then job report
   carried_within all = λ sides around_source around_target.
       subst (λ (l : List Look). First (ask_of job) job.page sides report l) (sym all)
@@ -152,7 +157,7 @@ module _ (told : CallsOfCopy) (is_front : CopyOfFrozenIsFront) (job : SyncJob) (
       let of : IsOfTrees (ask_of job) job.page sides report start one two knows.trees fetched =
       fetched_of job job.page sides report start source source_now target now target_now target_then one two fetched around_target roots third last_target knows
       (begun_own job source source_now target target_now looks start begun) (members_of start job.page source_now source_read target_now target_read fetched got) in
-      let theirs : IsPlanOf job sides report start one two knows.trees plan = plan_is job sides report start one two knows.trees fetched plan of planned_is in
+      let so : IsPlanOf job sides report start one two knows.trees plan = plan_is job sides report start one two knows.trees fetched plan of planned_is in
       worked told is_front job sides report start source source_now source_read source_then target target_read target_then one two knows.trees later around_source around_target both further.at_source.goes
-      (files start.to source_now knows.trees.to knows.trees.from.tree knows.to_seen knows.pair.to_tree.each_once) theirs.within
-      (subst (λ (p : Plan). IsCarried start job.target_root p source_read source_then target_read target_then report.moves report.copies later report.answer) theirs.same does)))
+      (files start.to source_now knows.trees.to knows.trees.from.tree knows.to_seen knows.pair.to_tree.each_once) so.within
+      (carried_as plan (plan_between knows.trees.from knows.trees.to knows.trees.base) so.same does)))

@@ -1,8 +1,7 @@
 -- What copies wrote and read, one after the other.
-use Rattle.std.proofs.Common.{◌≡◌, ℕ, ◌+◌, ◌≤◌, ◌==◌, Bool, true, false, cond, ◌&&◌, ◌||◌, Option, Some, None, Ok, List, [], ◌∷◌, ◌++◌, length, take, map, refl, ap, sym, ◌∙◌, subst, append-nil, arith}
+use Rattle.std.proofs.Common.{◌≡◌, ℕ, ◌+◌, ◌==◌, Bool, true, false, cond, ◌&&◌, ◌||◌, Option, Some, None, Ok, List, [], ◌∷◌, ◌++◌, length, take, refl, ap, sym, ◌∙◌, subst, append-nil, arith}
 use Rattle.std.specs.Prelude.{IfSome}
-use Rattle.std.specs.Option.{option_to_list}
-use Rattle.std.specs.List.{filter_map, cons_option, flat_map, AllByRecursion}
+use Rattle.std.specs.List.{filter_map, cons_option, AllByRecursion}
 use Rattle.std.proofs.Math.Seq.{take-append_seam}
 use Rattle.std.proofs.lemmas.Bool.Decides.{nat_tests}
 use Rattle.std.proofs.lemmas.List.Elements.{filter_map-append}
@@ -15,10 +14,9 @@ use Rattle.hs_types.specs.declared.call.Call.TheVariants as calls
 use Rattle.hs_types.specs.declared.call.Place.{Place}
 use Rattle.hs_types.specs.declared.call.Place.TheVariants as places
 use Rattle.hs_types.specs.declared.journal.Entry.{Entry}
-use Rattle.hs_types.specs.declared.reply.Answered.{Answered}
 use Rattle.hs_plain.specs.declared.plan.CopyJob.{CopyJob}
 use Rattle.hs_plain.specs.Answer.{is_modifying, is_ok_reply, is_store_fault}
-use Rattle.hs_plain.specs.Legal.{Said, leaves_entry, place_left}
+use Rattle.hs_plain.specs.Legal.{Said, place_left}
 use Rattle.hs_plain.specs.Plan.{IsFront, copy_calls, text_below}
 use Rattle.hs_plain.specs.Reading.{file_at}
 use Rattle.hs_plain.specs.Replay.{plain_after}
@@ -37,7 +35,7 @@ use Rattle.distcp_sync.proofs.Heard.{Goes, goes_then, made_goes, front_length}
 use Rattle.distcp_sync.proofs.Did.{Did, did_none, did_then}
 use Rattle.distcp_sync.proofs.Unmade.{did_made}
 use Rattle.distcp_sync.proofs.Firsts.{done_no_fault}
-use Rattle.distcp_sync.proofs.Wrote.{WroteAll, Wrote, wrote_none, all_then, some_then, all_some, some_more, all_if, some_if}
+use Rattle.distcp_sync.proofs.Wrote.{WroteAll, Wrote}
 
 -- ---- the last of some calls
 

@@ -1,5 +1,5 @@
 -- Copies, one after the other, as calls of the plan.
-use Rattle.std.proofs.Common.{◌≡◌, ℕ, suc, ◌+◌, Bool, false, Option, Some, None, List, [], ◌∷◌, ◌++◌, length, map, slice_get, refl, ap, sym, ◌∙◌, subst, append-nil, arith}
+use Rattle.std.proofs.Common.{◌≡◌, ℕ, suc, ◌+◌, Bool, false, Option, Some, None, List, [], ◌∷◌, length, map, slice_get, refl, sym, ◌∙◌, subst, append-nil, arith}
 use Rattle.std.specs.Prelude.{IfSome}
 use Rattle.std.specs.List.{flat_map, AllByRecursion}
 use Rattle.hs_types.specs.declared.ids.Side.{Side}
@@ -79,8 +79,8 @@ module _ (told : CallsOfCopy) (is_front : CopyOfFrozenIsFront) (tells : Bool) (s
       let one = one_whole number job s now t then_now copied tells_is goes copy ends in
       let others_did = chain_all (number + 1) more now s2 then_now t2 others ended none (tells_is ∙ sym one.1.tells) (goes_then first s now goes one.1) rest in (
         all_then (AreFiles snap bytes first (job ∷ more)) tells (job_calls root bytes job) (jobs_calls root bytes more) t then_now t2 copied.made (all_made others)
-        (all_if (IsFile snap bytes first job) (AreFiles snap bytes first (job ∷ more)) tells (job_calls root bytes job) t then_now copied.made (λ files. files.0) one.0)
-        (all_if (AreFiles snap bytes first more) (AreFiles snap bytes first (job ∷ more)) tells (jobs_calls root bytes more) then_now t2 (all_made others) (λ files. files.1) others_did.0),
+            (all_if (IsFile snap bytes first job) (AreFiles snap bytes first (job ∷ more)) tells (job_calls root bytes job) t then_now copied.made (λ files. files.0) one.0)
+            (all_if (AreFiles snap bytes first more) (AreFiles snap bytes first (job ∷ more)) tells (jobs_calls root bytes more) then_now t2 (all_made others) (λ files. files.1) others_did.0),
         omega (arith, others_did.1),
       )
 

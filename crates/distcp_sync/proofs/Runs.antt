@@ -1,5 +1,5 @@
 -- From the way of the code to what a sync tells.
-use Rattle.std.proofs.Common.{◌≡◌, ℕ, List, [], ◌∷◌, ◌++◌, Result, Ok, Err, refl, ap, sym, ◌∙◌, subst}
+use Rattle.std.proofs.Common.{◌≡◌, List, [], ◌++◌, Result, Ok, Err, refl, sym, subst}
 use Rattle.page_join.specs.Links.{Known, IsLawful}
 use Rattle.copy_workers.specs.CopyLaws.{CallsOfCopy, CopyOfFrozenIsFront}
 use Rattle.copy_workers.specs.declared.copied.Look.{Look}
@@ -10,7 +10,7 @@ use Rattle.distcp_sync.specs.declared.start.SyncStart.{SyncStart}
 use Rattle.distcp_sync.specs.Told.{ask_of}
 use Rattle.distcp_sync.specs.Calls.{AreSyncCalls}
 use Rattle.distcp_sync.specs.Around.{IsSyncedWithin}
-use Rattle.distcp_sync.specs.inside.Trace.{IsBegun, IsFetched, IsPlanned, IsCarried, IsRun, unbegun, unfetched, unplanned, carried}
+use Rattle.distcp_sync.specs.inside.Trace.{IsBegun, IsFetched, unbegun, unfetched, unplanned, carried}
 use Rattle.distcp_sync.specs.inside.Runs.{RunsAreTold}
 use Rattle.distcp_sync.proofs.Spans.{own_added}
 use Rattle.distcp_sync.specs.declared.answer.SyncAnswer.{SyncAnswer}
@@ -19,11 +19,8 @@ use Rattle.distcp_sync.specs.Told.{answer_at, begun, OrNoMemory}
 use Rattle.distcp_sync.specs.Steps.{SyncSides, places_in}
 use Rattle.distcp_sync.specs.Synced.{HasWorked, First}
 use Rattle.distcp_sync.specs.Around.{IsAround}
-use Rattle.distcp_sync.specs.inside.Trace.{AreRoots}
-use Rattle.distcp_sync.proofs.Heard.{Goes, goes_self, goes_then, made_goes, call_goes, heard}
+use Rattle.distcp_sync.proofs.Heard.{Goes, goes_self, goes_then, made_goes, heard}
 use Rattle.distcp_sync.proofs.Trees.{KnowsTrees, trees_told}
-use Rattle.distcp_sync.proofs.Entered.{made_entries}
-use Rattle.distcp_sync.proofs.Did.{Did}
 use Rattle.distcp_sync.proofs.Begun.{DidBoth, did_begin, told_begin, told_unbegun}
 use Rattle.distcp_sync.proofs.Fetches.{by_look, by_want}
 use Rattle.distcp_sync.proofs.Unmade.{did_fetch, both_then, unmade_calls}

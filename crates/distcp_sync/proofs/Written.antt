@@ -1,26 +1,23 @@
 -- What a sync wrote at its target, as calls of its plan, and how it ended.
-use Rattle.std.proofs.Common.{◌≡◌, ◌⊎◌, inl, inr, ℕ, ◌+◌, Bool, true, false, cond, Option, Some, None, Result, Ok, Err, List, [], ◌∷◌, ◌++◌, length, map, slice_get, refl, ap, sym, ◌∙◌, subst, append-nil, append_assoc}
+use Rattle.std.proofs.Common.{◌≡◌, ◌⊎◌, inl, inr, ℕ, ◌+◌, Bool, true, false, cond, Option, Some, None, Err, List, [], ◌∷◌, ◌++◌, length, map, slice_get, refl, ap, sym, ◌∙◌, subst, append-nil, append_assoc}
 use Rattle.std.specs.Prelude.{IfSome}
 use Rattle.std.specs.Option.{option_to_list}
-use Rattle.std.specs.List.{filter_map, cons_option, flat_map, AllByRecursion}
+use Rattle.std.specs.List.{filter_map, cons_option, AllByRecursion}
 use Rattle.hs_types.specs.declared.ids.CallerId.{CallerId}
-use Rattle.hs_types.specs.declared.ids.Side.TheVariants.{Source, Target}
-use Rattle.hs_types.specs.declared.ids.SnapId.{SnapId}
+use Rattle.hs_types.specs.declared.ids.Side.TheVariants.{Target}
 use Rattle.hs_types.specs.Names.{Names}
 use Rattle.hs_types.specs.declared.call.Call.{Call}
-use Rattle.hs_types.specs.declared.call.Call.TheVariants as calls
 use Rattle.hs_plain.specs.declared.plan.CopyJob.{CopyJob}
 use Rattle.hs_plain.specs.declared.plan.Plan.{Plan}
 use Rattle.hs_plain.specs.declared.plan.Put.{Put}
 use Rattle.hs_plain.specs.declared.plan.Put.TheVariants.{Back, NewDir}
 use Rattle.hs_plain.specs.Answer.{is_modifying, uses_store, is_ok_reply}
 use Rattle.hs_plain.specs.Legal.{Said}
-use Rattle.hs_plain.specs.Plan.{IsFront, move_calls, out_calls, put_call, last_call, copy_calls}
+use Rattle.hs_plain.specs.Plan.{move_calls, out_calls, put_call, last_call}
 use Rattle.plan_laws.proofs.Lists.{each-append, each-split}
 use Rattle.page_join.specs.Links.{Known, IsLawful, said_by}
-use Rattle.page_join.specs.Made.{AreMade}
 use Rattle.copy_workers.specs.Calls.{made_by}
-use Rattle.copy_workers.specs.CopyLaws.{CallsOfCopy, CopyOfFrozenIsFront, calls_of, claimed_calls}
+use Rattle.copy_workers.specs.CopyLaws.{CallsOfCopy, CopyOfFrozenIsFront, claimed_calls}
 use Rattle.copy_workers.specs.declared.copied.Made.{Made}
 use Rattle.copy_workers.specs.declared.copied.Look.{Look}
 use Rattle.copy_workers.specs.declared.copied.Copied.{Copied}

@@ -1,12 +1,11 @@
 -- What a sync that made calls of its plan left at both sides.
-use Rattle.std.proofs.Common.{◌≡◌, ◌⊎◌, inl, inr, ℕ, Bool, true, Option, Some, None, List, [], ◌∷◌, ◌++◌, map, refl, ap, sym, ◌∙◌, subst, append-nil}
+use Rattle.std.proofs.Common.{◌≡◌, ◌⊎◌, inl, inr, ℕ, Bool, true, None, List, [], ◌∷◌, ◌++◌, map, refl, ap, sym, ◌∙◌, subst, append-nil}
 use Rattle.std.specs.Option.{option_to_list}
 use Rattle.std.specs.List.{filter_map}
 use Rattle.hs_types.specs.declared.ids.CallerId.{CallerId}
 use Rattle.hs_types.specs.declared.call.Call.{Call}
 use Rattle.hs_plain.specs.declared.plan.Plan.{Plan}
 use Rattle.hs_plain.specs.Legal.{Said, place_left}
-use Rattle.hs_plain.specs.Plan.{IsFront}
 use Rattle.page_join.specs.Links.{Known}
 use Rattle.page_join.specs.Made.{AreMade}
 use Rattle.copy_workers.specs.Calls.{made_by}
@@ -25,8 +24,8 @@ use Rattle.distcp_sync.proofs.Begun.{DidBoth}
 use Rattle.distcp_sync.proofs.Unmade.{did_made}
 use Rattle.distcp_sync.proofs.Firsts.{made_rise}
 use Rattle.distcp_sync.proofs.Wrote.{WroteAll, Wrote}
-use Rattle.distcp_sync.proofs.CopyChain.{all_made, AreFiles}
-use Rattle.distcp_sync.proofs.Written.{calls_with, AreSomeWritten, AreAllWritten, written, carried_did}
+use Rattle.distcp_sync.proofs.CopyChain.{all_made}
+use Rattle.distcp_sync.proofs.Written.{AreSomeWritten, AreAllWritten, written, carried_did}
 
 -- all calls that were planned, as the first of them
 pub record IsEvery (If : Type 0) (tells : Bool) (planned : List Call) (old new : Known) (made : List Made) : Type 0 where

@@ -1,9 +1,7 @@
 -- How a sync ended that made calls of its plan, in the journals around what its links have seen.
-use Rattle.std.proofs.Common.{◌≡◌, ◌⊎◌, inl, inr, ℕ, ◌+◌, ◌≤◌, Bool, true, false, cond, ◌&&◌, ◌||◌, Option, Some, None, List, [], ◌∷◌, ◌++◌, length, slice_get, refl, ap, sym, ◌∙◌, subst, arith}
+use Rattle.std.proofs.Common.{◌≡◌, ℕ, ◌+◌, ◌≤◌, Bool, true, false, cond, ◌&&◌, ◌||◌, Option, Some, None, List, [], ◌∷◌, length, slice_get, refl, ap, sym, ◌∙◌, subst, arith}
 use Rattle.std.specs.Prelude.{IfSome}
-use Rattle.hs_types.specs.declared.ids.Side.{Side}
 use Rattle.hs_types.specs.declared.ids.Side.TheVariants.{Source, Target}
-use Rattle.hs_types.specs.declared.ids.CallerId.{CallerId}
 use Rattle.hs_types.specs.declared.call.Call.{Call}
 use Rattle.hs_types.specs.declared.call.Call.TheVariants as calls
 use Rattle.hs_types.specs.declared.call.Place.TheVariants as places
@@ -12,7 +10,7 @@ use Rattle.hs_types.specs.declared.reply.Answered.{Answered}
 use Rattle.hs_plain.specs.declared.plan.CopyJob.{CopyJob}
 use Rattle.hs_plain.specs.State.{start}
 use Rattle.hs_plain.specs.Answer.{is_modifying, uses_store, is_ok_reply, is_store_fault}
-use Rattle.hs_plain.specs.Legal.{Said, leaves_entry, entry_of, reach_of}
+use Rattle.hs_plain.specs.Legal.{Said, leaves_entry, entry_of}
 use Rattle.hs_plain.specs.Plan.{bad_paths}
 use Rattle.hs_plain.specs.Premises.{SyncAsk}
 use Rattle.hs_plain.specs.Replay.{fits_kind}
@@ -25,7 +23,7 @@ use Rattle.distcp_sync.specs.declared.report.SyncReport.{SyncReport}
 use Rattle.distcp_sync.specs.declared.start.SyncStart.{SyncStart}
 use Rattle.distcp_sync.specs.Told.{answer_at, OrNoMemory}
 use Rattle.distcp_sync.specs.Steps.{SyncSides, IsHeard, IsNext, ended_copy, up_to_last}
-use Rattle.distcp_sync.specs.Synced.{HasTrees, HasMade, planned, jobs, IsLastLook, IsCopyLook, EndsAlone, Ended}
+use Rattle.distcp_sync.specs.Synced.{HasTrees, planned, jobs, IsLastLook, IsCopyLook, EndsAlone, Ended}
 use Rattle.distcp_sync.specs.Around.{IsAround}
 use Rattle.distcp_sync.proofs.Heard.{Goes, goes_self, goes_then, heard}
 use Rattle.distcp_sync.proofs.Did.{fits_at}
@@ -68,27 +66,27 @@ module _ (ask : SyncAsk) (page : ℕ) (sides : SyncSides) (report : SyncReport) 
   last_heard_target call look last = heard sides Target target last.now target_then target_then call look around_target (goes_then target target_read last.now goes_target last.before) last.looked (goes_self target_then)
 
   module _ (failed : Option Said) (last : List Made) (nothing : Type 0) (so : IsMadeSo ask page sides report begin one two trees failed last (length target_then.seen) nothing) (within : bad_paths (planned ask page sides report begin one two trees) ≡ []) where
-    copy_look : (index : ℕ) (job : CopyJob) (look : Look) (undone : Option Said) → undone ≡ failed → slice_get (jobs ask page sides report begin one two trees) index ≡ Some job → length report.copies ≡ index + 1 →
-        IsCut begin.to job source_read source_then target_read target_then look undone → IsCopyLook ask page sides report begin one two trees so.made look
-    copy_look index job look undone same job_is count (IsCut.by_memory is) = IsCopyLook.by_memory is
-    copy_look index job look undone same job_is count (IsCut.by_read offset looked) = IsCopyLook.by_read index offset job job_is count (last_heard_source (calls.ReadNext (record { place = places.Frozen job.id begin.to; offset = offset }) 65536) look looked)
-    copy_look index job look undone same job_is count (IsCut.by_write said told looked) =
+    copy_look : (index : ℕ) (job : CopyJob) (look : Look) (missed : Option Said) → missed ≡ failed → slice_get (jobs ask page sides report begin one two trees) index ≡ Some job → length report.copies ≡ index + 1 →
+        IsCut begin.to job source_read source_then target_read target_then look missed → IsCopyLook ask page sides report begin one two trees so.made look
+    copy_look index job look missed same job_is count (IsCut.by_memory is) = IsCopyLook.by_memory is
+    copy_look index job look missed same job_is count (IsCut.by_read offset looked) = IsCopyLook.by_read index offset job job_is count (last_heard_source (calls.ReadNext (record { place = places.Frozen job.id begin.to; offset = offset }) 65536) look looked)
+    copy_look index job look missed same job_is count (IsCut.by_write said told looked) =
         IsCopyLook.by_write said.call (subst (λ (o : Option Said). IfSome o (λ said. IsNext sides.source_tells so.made.rest said.call)) (sym same) so.next)
         (subst (λ n. up_to_last so.made.made ≤ n) looked.looked.called.reach so.up_to) (last_heard_target said.call look looked)
 
-    pub ended_so : (looks : List Look) (answer : SyncAnswer) (undone : Option Said) → undone ≡ failed → answer ≡ report.answer → IsEnded begin (jobs ask page sides report begin one two trees) source_read source_then target_read target_then report.copies looks answer undone →
+    pub ended_so : (looks : List Look) (answer : SyncAnswer) (missed : Option Said) → missed ≡ failed → answer ≡ report.answer → IsEnded begin (jobs ask page sides report begin one two trees) source_read source_then target_read target_then report.copies looks answer missed →
         Ended ask page sides report begin one two trees so.made looks (ended_copy report.copies)
-    ended_so looks answer undone same told (IsEnded.wanting none) =
+    ended_so looks answer missed same told (IsEnded.wanting none) =
         subst (Ended ask page sides report begin one two trees so.made []) (sym none) (EndsAlone.wanting (sym told))
-    ended_so looks answer undone same told (IsEnded.by_reply look answer_is said none reply looked stores bad or) =
+    ended_so looks answer missed same told (IsEnded.by_reply look answer_is said none reply looked stores bad or) =
         subst (Ended ask page sides report begin one two trees so.made (look ∷ [])) (sym none) (
           IsLastLook.moved said.call within (subst (λ (o : Option Said). IfSome o (λ said. IsNext sides.source_tells so.made.rest said.call)) (sym same) so.next)
-          (omega (arith, so.up_to, seen_before looked.now target_then said.call look.reply looked.looked.called stores bad)) (last_heard_target said.call look looked),
+              (omega (arith, so.up_to, seen_before looked.now target_then said.call look.reply looked.looked.called stores bad)) (last_heard_target said.call look looked),
           bad,
           subst (OrNoMemory (answer_at look)) told or,
         )
-    ended_so looks answer undone same told (IsEnded.by_copy look answer_is undone_is index job some job_is count cut bad or) =
-        subst (Ended ask page sides report begin one two trees so.made []) (sym some) (copy_look index job look undone same job_is count cut, bad, subst (OrNoMemory (answer_at look)) told or)
+    ended_so looks answer missed same told (IsEnded.by_copy look answer_is undone_is index job some job_is count cut bad or) =
+        subst (Ended ask page sides report begin one two trees so.made []) (sym some) (copy_look index job look missed same job_is count cut, bad, subst (OrNoMemory (answer_at look)) told or)
 
     -- all was done
     pub ended_all : (deleted : Made) → last ≡ deleted ∷ [] → failed ≡ None → nothing → report.answer ≡ answers.Done → ended_copy report.copies ≡ None → length report.copies ≡ length (jobs ask page sides report begin one two trees) →

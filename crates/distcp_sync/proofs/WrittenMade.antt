@@ -1,14 +1,12 @@
 -- The entries of a sync that made calls of its plan, in a journal around what its link has seen.
-use Rattle.std.proofs.Common.{◌≡◌, ℕ, ◌+◌, ◌≤◌, Bool, true, false, cond, ◌&&◌, ◌||◌, Option, Some, None, List, [], ◌∷◌, ◌++◌, length, map, slice_get, refl, ap, sym, ◌∙◌, subst, append-nil, append_assoc, arith}
+use Rattle.std.proofs.Common.{◌≡◌, ℕ, ◌+◌, ◌≤◌, Bool, true, false, Option, Some, None, List, [], ◌∷◌, ◌++◌, length, map, refl, ap, sym, ◌∙◌, subst, append_assoc, arith}
 use Rattle.std.specs.Prelude.{IfSome}
 use Rattle.std.specs.Option.{option_to_list}
-use Rattle.std.specs.List.{filter_map, flat_map, AllByRecursion}
+use Rattle.std.specs.List.{filter_map, AllByRecursion}
 use Rattle.std.proofs.lemmas.List.Elements.{filter_map-append}
 use Rattle.hs_types.specs.Names.{Names}
 use Rattle.hs_types.specs.declared.ids.CallerId.{CallerId}
-use Rattle.hs_types.specs.declared.ids.SnapId.{SnapId}
 use Rattle.hs_types.specs.declared.call.Call.{Call}
-use Rattle.hs_types.specs.declared.journal.Entry.{Entry}
 use Rattle.hs_plain.specs.declared.plan.CopyJob.{CopyJob}
 use Rattle.hs_plain.specs.declared.plan.Plan.{Plan}
 use Rattle.hs_plain.specs.declared.plan.Put.{Put}
@@ -20,17 +18,16 @@ use Rattle.hs_plain.specs.Plan.{IsFront, move_calls, out_calls, put_call, last_c
 use Rattle.hs_plain.specs.Premises.{SyncAsk}
 use Rattle.plan_laws.proofs.Lists.{each-append}
 use Rattle.page_join.specs.Links.{Known}
-use Rattle.page_join.specs.Made.{AreMade}
 use Rattle.copy_workers.specs.Calls.{made_by}
-use Rattle.copy_workers.specs.CopyLaws.{claimed_call, claimed_calls, calls_of}
+use Rattle.copy_workers.specs.CopyLaws.{claimed_calls, calls_of}
 use Rattle.copy_workers.specs.declared.copied.Made.{Made}
 use Rattle.copy_workers.specs.declared.copied.Look.{Look}
 use Rattle.distcp_sync.specs.declared.report.SyncReport.{SyncReport}
 use Rattle.distcp_sync.specs.declared.start.SyncStart.{SyncStart}
-use Rattle.distcp_sync.specs.Steps.{SyncSides, AreAllMade, AreEntries, places_in, plan_between, IsNext, AreFaulted, AreFirst, are_numbered, up_to_last}
+use Rattle.distcp_sync.specs.Steps.{SyncSides, AreEntries, IsNext, AreFaulted, are_numbered, up_to_last}
 use Rattle.distcp_sync.specs.Synced.{HasTrees, HasMade, planned}
 use Rattle.distcp_sync.specs.Around.{IsAround}
-use Rattle.distcp_sync.proofs.Heard.{Goes, front_length}
+use Rattle.distcp_sync.proofs.Heard.{front_length}
 use Rattle.distcp_sync.proofs.Spans.{own_added}
 use Rattle.distcp_sync.proofs.Entered.{made_entries}
 use Rattle.distcp_sync.proofs.Did.{Did}

@@ -91,8 +91,7 @@ module _ (ask : SyncAsk) (page : ℕ) (sides : SyncSides) (report : SyncReport) 
     moved : (call : Call) → bad_paths (planned start one two trees) ≡ [] → IsNext sides.source_tells made.rest call → up_to_last made.made ≤ look.reply.position →
         IsHeard sides Target call look → IsLastLook start one two trees made look
 
-  -- what ended the copies: want of memory for a call that wasn't made, a read of the file of the last job, or the next call of the plan, which then
-  -- knows all that was made, the entry of its own fault too
+  -- what ended the copies: want of memory for a call that wasn't made, a read of the file of the last job, or the next call of the plan, which knows all that was made, a fault's own entry too
   pub data IsCopyLook (start : SyncStart) (one two : Look) (trees : HasTrees start one two) (made : HasMade start one two trees) (look : Look) : Type 0 where
     by_memory : look ≡ wanting_of look.side look.caller → IsCopyLook start one two trees made look
     by_read : (number offset : ℕ) (job : CopyJob) → slice_get (jobs start one two trees) number ≡ Some job → length report.copies ≡ number + 1 →

@@ -1,4 +1,4 @@
-//! Laws of a sync: functions without a body, each for its contract.
+//! Laws of a sync: functions that do nothing, each for its contract.
 ghost use Rattle.distcp_sync.specs.Promise.{SyncsKeepPromise};
 ghost use Rattle.distcp_sync.specs.inside.Runs.{RunsAreTold};
 
