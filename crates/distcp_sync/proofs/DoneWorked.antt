@@ -32,42 +32,32 @@ use Rattle.distcp_sync.specs.Told.{answer_at, OrNoMemory}
 use Rattle.distcp_sync.specs.Steps.{SyncSides, side_at, state_at, IsHeard, IsNext, AreFirst, AreFaulted, plan_between, ended_copy, up_to_last}
 use Rattle.distcp_sync.specs.Synced.{IsNewDir, HasTrees, HasMade, HasWorked, IsLastLook, IsCopyLook, EndsAlone, Ended, planned, jobs}
 use Rattle.distcp_sync.proofs.Replied.{IsFree, heard-within, ends-wanting}
-use Rattle.distcp_sync.proofs.Premised.{IsPremised, premised, lives}
+use Rattle.distcp_sync.proofs.Premised.{IsPremised, lives}
+use Rattle.distcp_sync.proofs.DonePremises.{begins-at, HasDirs}
+use Rattle.distcp_sync.proofs.DonePremises as premises
 use Rattle.distcp_sync.proofs.DoneReads.{IsFileOf, lines-ok, items-ok, job-file, read-ok}
 use Rattle.distcp_sync.proofs.DonePlan.{plan-is, next-ok}
 
 module _ (ask : SyncAsk) (page : ℕ) (sides : SyncSides) (report : SyncReport) (tells : sides.source_tells ≡ true) (limits : AreWithinLimit sides.source sides.target)
     (undisturbed : IsUndisturbed ask sides.source sides.target) (unhindered : IsUnhindered ask sides.source sides.target undisturbed) where
-  pub source-free : IsFree sides.source
-  source-free = record { faultless = unhindered.source_faults; room = unhindered.source_room }
+  module _ (source target : InodeId) (one two : Look) (dirs : HasDirs ask sides undisturbed unhindered source target one two) where
+    source-free : IsFree sides.source
+    source-free = premises.source-free ask sides undisturbed unhindered
 
-  pub target-free : IsFree sides.target
-  target-free = record { faultless = unhindered.target_faults; room = unhindered.target_room }
+    target-free : IsFree sides.target
+    target-free = premises.target-free ask sides undisturbed unhindered
 
-  pub from-premised : IsPremised sides.source ask.source_root undisturbed.begins.from
-  from-premised = premised sides.source ask.source_root ask.from undisturbed.begins.from undisturbed.begins.has_from undisturbed.from_stays
+    from-premised : IsPremised sides.source ask.source_root undisturbed.begins.from
+    from-premised = premises.from-premised ask sides undisturbed unhindered
 
-  pub to-premised : IsPremised sides.source ask.source_root undisturbed.begins.to
-  to-premised = premised sides.source ask.source_root ask.to undisturbed.begins.to undisturbed.begins.has_to undisturbed.to_stays
+    to-premised : IsPremised sides.source ask.source_root undisturbed.begins.to
+    to-premised = premises.to-premised ask sides undisturbed unhindered
 
-  pub base-premised : IsPremised sides.target ask.target_root undisturbed.begins.base
-  base-premised = premised sides.target ask.target_root ask.from undisturbed.begins.base undisturbed.begins.has_base undisturbed.base_stays
+    base-premised : IsPremised sides.target ask.target_root undisturbed.begins.base
+    base-premised = premises.base-premised ask sides undisturbed unhindered
 
-  -- where the sync begins, by the premises' snapshots
-  abbrev pub begins-at : InodeId → InodeId → SyncStart
-  begins-at source target = record { source = source; target = target; from = undisturbed.begins.from.snapshot; to = undisturbed.begins.to.snapshot; base = undisturbed.begins.base.snapshot }
-
-  -- the directories that were told are those of the premises' snapshots
-  pub record HasDirs (source target : InodeId) (one two : Look) : Type 0 where
-    pub first_within : IsWithin sides.source.span one.reply.position
-    pub second_within : IsWithin sides.target.span two.reply.position
-    pub from_dir : source ≡ undisturbed.begins.from.directory
-    pub to_dir : source ≡ undisturbed.begins.to.directory
-    pub base_dir : target ≡ undisturbed.begins.base.directory
-
-  module _ (source target : InodeId) (one two : Look) (dirs : HasDirs source target one two) where
     abbrev start : SyncStart
-    start = begins-at source target
+    start = begins-at ask sides undisturbed unhindered source target
 
     module _ (trees : HasTrees ask page sides report start one two) where
       -- the trees are those of the premises

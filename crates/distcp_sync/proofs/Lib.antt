@@ -16,5 +16,6 @@ pub mod DoneReads
 pub mod DonePlan
 pub mod Replied
 pub mod Started
+pub mod DonePremises
 pub mod DoneWorked
 pub mod Done
