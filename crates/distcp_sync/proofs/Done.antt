@@ -6,12 +6,10 @@ use Rattle.hs_types.specs.declared.ids.SnapId.{SnapId}
 use Rattle.hs_types.specs.declared.ids.InodeId.{InodeId}
 use Rattle.hs_types.specs.declared.call.Call.TheVariants as calls
 use Rattle.hs_types.specs.declared.reply.Line.{Line}
-use Rattle.hs_types.specs.declared.reply.Reply.{Reply}
 use Rattle.hs_types.specs.declared.reply.Reply.TheVariants as replies
-use Rattle.hs_plain.specs.Answer.{answer, is_ok_reply}
+use Rattle.hs_plain.specs.Answer.{is_ok_reply}
 use Rattle.hs_plain.specs.Joined.{lines_shown}
-use Rattle.hs_plain.specs.Reading.{snapshottable_at}
-use Rattle.hs_plain.specs.Premises.{SyncAsk, SyncSide, IsUndisturbed, IsUnhindered, state_before}
+use Rattle.hs_plain.specs.Premises.{SyncAsk, IsUndisturbed, IsUnhindered}
 use Rattle.hs_plain.proofs.ValidAsked.{same_ok}
 use Rattle.plan_laws.specs.Undisturbed.{AreWithinLimit}
 use Rattle.sync_laws.specs.Lasting.{IsWithin}
@@ -20,8 +18,8 @@ use Rattle.distcp_sync.specs.declared.answer.SyncAnswer.{SyncAnswer}
 use Rattle.distcp_sync.specs.declared.answer.SyncAnswer.TheVariants as answers
 use Rattle.distcp_sync.specs.declared.report.SyncReport.{SyncReport}
 use Rattle.distcp_sync.specs.declared.start.SyncStart.{SyncStart}
-use Rattle.distcp_sync.specs.Told.{begun, start_by, if_older, root_answer, answer_by, answer_at, unchanged_call, OrNoMemory}
-use Rattle.distcp_sync.specs.Steps.{SyncSides, state_at, IsHeard}
+use Rattle.distcp_sync.specs.Told.{begun, start_by, root_answer, answer_by, answer_at, unchanged_call, OrNoMemory}
+use Rattle.distcp_sync.specs.Steps.{SyncSides, IsHeard}
 use Rattle.distcp_sync.specs.Synced.{First, Second, Third, AfterSecond, AfterThird, ByChange}
 use Rattle.distcp_sync.proofs.Premised.{leads-still}
 use Rattle.distcp_sync.proofs.DonePremises.{HasDirs, third-ok, no-line}

@@ -1,9 +1,7 @@
 -- What an unhindered sync's first replies tell of the premises' snapshots, and that its target is unchanged.
-use Rattle.std.proofs.Common.{◌≡◌, ℕ, ◌≤◌, Bool, true, false, Some, None, Ok, List, [], ◌∷◌, take, refl, ap, sym, subst, ◌∙◌, arith}
+use Rattle.std.proofs.Common.{◌≡◌, ℕ, true, List, [], take, refl, ap, sym, subst, ◌∙◌, arith}
 use Rattle.hs_types.specs.declared.ids.Side.TheVariants.{Target}
 use Rattle.hs_types.specs.declared.ids.InodeId.{InodeId}
-use Rattle.hs_types.specs.declared.call.Call.{Call}
-use Rattle.hs_types.specs.declared.reply.Line.{Line}
 use Rattle.hs_plain.specs.Answer.{answer, is_ok_reply}
 use Rattle.hs_plain.specs.Joined.{lines_shown}
 use Rattle.hs_plain.specs.Reading.{lines_between}
@@ -11,7 +9,7 @@ use Rattle.hs_plain.specs.Span.{IsInSpan, touches}
 use Rattle.hs_plain.specs.Premises.{SyncAsk, IsUndisturbed, IsUnhindered, now}
 use Rattle.hs_plain.proofs.ValidLists.{In, by_test}
 use Rattle.sync_laws.specs.Lasting.{IsWithin, IsUntouched, front_of}
-use Rattle.sync_laws.specs.Shown.{IsSnapshotOf, ShowsLines, report_start}
+use Rattle.sync_laws.specs.Shown.{IsSnapshotOf, ShowsLines}
 use Rattle.sync_laws.proofs.Snapshots.{valid-at}
 use Rattle.sync_laws.proofs.Shown.{first-to_now}
 use Rattle.sync_laws.proofs.Untouched.{reports-stay}
@@ -21,7 +19,7 @@ use Rattle.distcp_sync.specs.Told.{unchanged_call}
 use Rattle.distcp_sync.specs.Steps.{SyncSides, state_at, IsHeard, places_in}
 use Rattle.distcp_sync.proofs.Replied.{IsFree, heard-within, heard-lines}
 use Rattle.distcp_sync.proofs.SpanOwn.{place-there}
-use Rattle.distcp_sync.proofs.Premised.{IsPremised, premised, lives, leads-still}
+use Rattle.distcp_sync.proofs.Premised.{IsPremised, premised, lives}
 
 module _ (ask : SyncAsk) (sides : SyncSides) (undisturbed : IsUndisturbed ask sides.source sides.target) (unhindered : IsUnhindered ask sides.source sides.target undisturbed) where
   pub source-free : IsFree sides.source

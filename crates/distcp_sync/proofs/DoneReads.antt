@@ -1,9 +1,8 @@
 -- A sync's reads of the premises' snapshots are answered by an Ok reply.
-use Rattle.std.proofs.Common.{◌≡◌, ◌⊎◌, inl, inr, ℕ, zero, suc, Bool, true, false, not, ◌&&◌, Option, Some, None, Ok, List, [], ◌∷◌, map, slice_get, refl, ap, sym, subst, ◌∙◌}
+use Rattle.std.proofs.Common.{◌≡◌, inl, inr, ℕ, zero, suc, true, not, Option, Some, Ok, List, [], ◌∷◌, map, slice_get, refl, ap, sym}
 use Rattle.std.specs.List.{filter}
 use Rattle.hs_types.specs.Names.{Names}
 use Rattle.hs_types.specs.declared.ids.InodeId.{InodeId}
-use Rattle.hs_types.specs.declared.ids.SnapId.{SnapId}
 use Rattle.hs_types.specs.declared.call.Call.TheVariants as calls
 use Rattle.hs_types.specs.declared.call.ReportCursor.{ReportCursor}
 use Rattle.hs_plain.specs.declared.plan.CopyJob.{CopyJob}

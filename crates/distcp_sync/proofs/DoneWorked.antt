@@ -1,18 +1,15 @@
 -- An unhindered sync behind its first replies: whichever reply ended it says that memory ran out, or all calls of the plan were accepted.
-use Rattle.std.proofs.Common.{◌≡◌, ◌⊎◌, inl, inr, ℕ, ◌≤◌, Bool, true, false, Option, Some, None, Ok, List, [], ◌∷◌, map, slice_get, refl, ap, sym, subst, ◌∙◌}
-use Rattle.hs_types.specs.Names.{Names}
+use Rattle.std.proofs.Common.{◌≡◌, ◌⊎◌, inl, inr, ℕ, ◌≤◌, Bool, true, false, Option, Some, None, Ok, List, [], ◌∷◌, slice_get, ap, sym, subst, ◌∙◌}
 use Rattle.hs_types.specs.declared.ids.InodeId.{InodeId}
 use Rattle.hs_types.specs.declared.ids.SnapId.{SnapId}
-use Rattle.hs_types.specs.declared.ids.Side.{Side}
 use Rattle.hs_types.specs.declared.ids.Side.TheVariants.{Source, Target}
 use Rattle.hs_types.specs.declared.call.Call.{Call}
 use Rattle.hs_types.specs.declared.call.Call.TheVariants as calls
 use Rattle.hs_types.specs.declared.call.ReportCursor.{ReportCursor}
 use Rattle.hs_plain.specs.declared.plan.CopyJob.{CopyJob}
-use Rattle.hs_plain.specs.declared.state.Node.{Node}
 use Rattle.hs_plain.specs.declared.state.Member.{Member}
 use Rattle.hs_plain.specs.State.{member_with}
-use Rattle.hs_plain.specs.Tree.{is_dir, place_of}
+use Rattle.hs_plain.specs.Tree.{place_of}
 use Rattle.hs_plain.specs.Answer.{answer, is_ok_reply}
 use Rattle.hs_plain.specs.Plan.{plan_calls, bad_paths}
 use Rattle.hs_plain.specs.Premises.{SyncAsk, IsUndisturbed, IsUnhindered}
@@ -29,7 +26,7 @@ use Rattle.distcp_sync.specs.declared.answer.SyncAnswer.TheVariants as answers
 use Rattle.distcp_sync.specs.declared.report.SyncReport.{SyncReport}
 use Rattle.distcp_sync.specs.declared.start.SyncStart.{SyncStart}
 use Rattle.distcp_sync.specs.Told.{answer_at, OrNoMemory}
-use Rattle.distcp_sync.specs.Steps.{SyncSides, side_at, state_at, IsHeard, IsNext, AreFirst, AreFaulted, plan_between, ended_copy, up_to_last}
+use Rattle.distcp_sync.specs.Steps.{SyncSides, state_at, IsHeard, IsNext, AreFirst, AreFaulted, plan_between, ended_copy, up_to_last}
 use Rattle.distcp_sync.specs.Synced.{IsNewDir, HasTrees, HasMade, HasWorked, IsLastLook, IsCopyLook, EndsAlone, Ended, planned, jobs}
 use Rattle.distcp_sync.proofs.Replied.{IsFree, heard-within, ends-wanting}
 use Rattle.distcp_sync.proofs.Premised.{IsPremised, lives}

@@ -1,20 +1,15 @@
 -- A snapshot of the premises throughout its span: it is there, in its directory at its path, and what its tree has is shown.
-use Rattle.std.proofs.Common.{◌≡◌, ℕ, ◌≤◌, Bool, true, false, Option, Some, None, Ok, List, [], ◌∷◌, take, refl, ap, sym, subst, ◌∙◌, arith}
+use Rattle.std.proofs.Common.{◌≡◌, ℕ, true, Option, Some, None, Ok, List, [], refl, ap, sym, ◌∙◌}
 use Rattle.std.specs.Prelude.{bytes_eq}
 use Rattle.std.specs.FinMap.Entries.{is_sorted}
 use Rattle.std.proofs.lemmas.Bool.Decides.{Decides-eqb}
-use Rattle.hs_types.specs.Names.{Names}
 use Rattle.hs_types.specs.declared.ids.InodeId.{InodeId}
-use Rattle.hs_types.specs.declared.ids.SnapId.{SnapId}
-use Rattle.hs_types.specs.declared.call.Call.TheVariants as calls
-use Rattle.hs_types.specs.declared.call.ReportCursor.{ReportCursor}
 use Rattle.hs_plain.specs.declared.state.Node.{Node}
 use Rattle.hs_plain.specs.declared.state.Member.{Member}
 use Rattle.hs_plain.specs.declared.state.State.{State}
-use Rattle.hs_plain.specs.Tree.{Tree, path_cmp, node_at, is_dir, same_inode, place_of}
+use Rattle.hs_plain.specs.Tree.{path_cmp, node_at, is_dir, same_inode, place_of}
 use Rattle.hs_plain.specs.State.{is_named, member_named, member_with}
 use Rattle.hs_plain.specs.Reading.{snapshottable_at}
-use Rattle.hs_plain.specs.Answer.{answer, is_ok_reply}
 use Rattle.hs_plain.specs.Span.{Stays}
 use Rattle.hs_plain.specs.Valid.{is_dir_with, has_parents, has_each_once, IsValid}
 use Rattle.hs_plain.specs.Premises.{SyncSide, member_at, state_before}

@@ -1,9 +1,8 @@
 -- One reply that a sync kept, where no fault is met and no journal comes to its limit: what the plain machine does, or NoMemory.
-use Rattle.std.proofs.Common.{◌≡◌, ◌⊎◌, inl, inr, cond, ℕ, ◌+◌, ◌<◌, ◌≤◌, Bool, true, false, Some, List, [], ◌∷◌, take, refl, ap, sym, ◌∙◌, arith}
+use Rattle.std.proofs.Common.{◌≡◌, ◌⊎◌, inl, inr, cond, ℕ, ◌+◌, ◌<◌, ◌≤◌, Bool, true, false, refl, ap, ◌∙◌, arith}
 use Rattle.std.specs.Prelude.{◌&&◌, ◌||◌}
 use Rattle.hs_types.specs.declared.ids.Side.{Side}
 use Rattle.hs_types.specs.declared.call.Call.{Call}
-use Rattle.hs_types.specs.declared.journal.Entry.{Entry}
 use Rattle.hs_types.specs.declared.journal.EntryKind.TheVariants.{Accepted, Faulted}
 use Rattle.hs_types.specs.declared.refusal.Refusal.{Refusal}
 use Rattle.hs_types.specs.declared.refusal.Refusal.TheVariants as refusals
@@ -18,7 +17,6 @@ use Rattle.hs_plain.proofs.Paged.{observed}
 use Rattle.hs_plain.proofs.ValidShapes.{true_false}
 use Rattle.sync_laws.specs.Lasting.{IsWithin}
 use Rattle.copy_workers.specs.declared.copied.Look.{Look}
-use Rattle.distcp_sync.specs.declared.answer.SyncAnswer.{SyncAnswer}
 use Rattle.distcp_sync.specs.declared.answer.SyncAnswer.TheVariants as answers
 use Rattle.distcp_sync.specs.Told.{answer_at}
 use Rattle.distcp_sync.specs.Steps.{SyncSides, side_at, tells_at, state_at, IsHeard}

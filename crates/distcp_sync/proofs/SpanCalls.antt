@@ -1,22 +1,18 @@
 -- The entries of a sync's callers in its span: they are those that its report names, and their calls are the first of its plan's.
-use Rattle.std.proofs.Common.{◌≡◌, ◌⊎◌, inl, inr, ℕ, zero, suc, ◌+◌, ◌-◌, ◌<◌, ◌≤◌, nat_le, nat_lt, Bool, true, false, cond, ◌&&◌, Option, Some, None, List, [], ◌∷◌, ◌++◌, map, take, drop, slice_get, refl, ap, sym, subst, ◌∙◌, append-nil, arith}
+use Rattle.std.proofs.Common.{◌≡◌, ℕ, zero, suc, ◌+◌, ◌-◌, ◌<◌, ◌≤◌, nat_le, nat_lt, Bool, true, false, cond, ◌&&◌, Option, Some, List, [], ◌∷◌, ◌++◌, map, take, drop, slice_get, refl, ap, sym, subst, ◌∙◌, arith}
 use Rattle.std.specs.List.{filter, filter_map, cons_option, AllByRecursion}
 use Rattle.std.proofs.lemmas.Bool.Decides.{nat_tests}
 use Rattle.hs_types.specs.declared.ids.CallerId.{CallerId}
 use Rattle.hs_types.specs.declared.call.Call.{Call}
 use Rattle.hs_types.specs.declared.call.Call.TheVariants as calls
 use Rattle.hs_types.specs.declared.journal.Entry.{Entry}
-use Rattle.hs_types.specs.declared.journal.EntryKind.{EntryKind}
-use Rattle.hs_types.specs.declared.journal.EntryKind.TheVariants.{Accepted, Faulted}
-use Rattle.hs_plain.specs.Change.{is_accepted}
-use Rattle.hs_plain.specs.Span.{Span, is_one_of}
-use Rattle.hs_plain.specs.Premises.{SyncSide, MeetsNoFault}
-use Rattle.hs_plain.proofs.ValidShapes.{none_some, same_some, true_false}
+use Rattle.hs_plain.specs.Span.{is_one_of}
+use Rattle.hs_plain.specs.Premises.{SyncSide}
 use Rattle.plan_laws.specs.Steps.{own_calls}
 use Rattle.plan_laws.specs.Undisturbed.{entries_between, is_entry_of, entries_up_to}
 use Rattle.copy_workers.specs.CopyLaws.{claimed_call}
 use Rattle.copy_workers.specs.declared.copied.Made.{Made}
-use Rattle.distcp_sync.specs.Steps.{AreEntries, own_places, places_in, up_to_last, IsNext, AreFaulted, AreFirst}
+use Rattle.distcp_sync.specs.Steps.{AreEntries, own_places, places_in, up_to_last, IsNext, AreFirst}
 
 -- ---- calls of which all is claimed
 

@@ -1,19 +1,17 @@
 -- The first replies of an undisturbed sync that nothing hinders: the snapshots of a root, those of the premises among them.
-use Rattle.std.proofs.Common.{◌≡◌, ◌⊎◌, inl, inr, ℕ, ◌+◌, ◌≤◌, cond, Bool, true, false, Option, Some, Ok, List, [], ◌∷◌, take, refl, ap, sym, subst, ◌∙◌, arith}
-use Rattle.std.specs.Prelude.{◌&&◌, ◌||◌, bytes_eq}
+use Rattle.std.proofs.Common.{◌≡◌, ◌⊎◌, inl, inr, ℕ, cond, Bool, true, false, Option, Some, Ok, List, [], ◌∷◌, refl, ap, sym, ◌∙◌}
+use Rattle.std.specs.Prelude.{bytes_eq}
 use Rattle.hs_types.specs.declared.ids.Side.{Side}
 use Rattle.hs_types.specs.declared.ids.InodeId.{InodeId}
 use Rattle.hs_types.specs.declared.ids.SnapId.{SnapId}
 use Rattle.hs_types.specs.declared.name.SnapItem.{SnapItem}
-use Rattle.hs_types.specs.declared.call.Call.{Call}
 use Rattle.hs_types.specs.declared.call.Call.TheVariants as calls
 use Rattle.hs_types.specs.declared.reply.Reply.{Reply}
 use Rattle.hs_types.specs.declared.reply.Reply.TheVariants as replies
 use Rattle.hs_plain.specs.declared.state.Member.{Member}
 use Rattle.hs_plain.specs.declared.state.State.{State}
 use Rattle.hs_plain.specs.State.{member_named}
-use Rattle.hs_plain.specs.Answer.{answer, is_ok_reply, is_store_fault, is_modifying, claimed}
-use Rattle.hs_plain.specs.Legal.{reach_of}
+use Rattle.hs_plain.specs.Answer.{answer, claimed}
 use Rattle.hs_plain.specs.Reading.{snapshottable_at}
 use Rattle.hs_plain.specs.Span.{Stays}
 use Rattle.hs_plain.specs.Premises.{SyncSide, member_at, state_before}
