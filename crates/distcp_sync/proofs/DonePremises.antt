@@ -72,8 +72,8 @@ module _ (ask : SyncAsk) (sides : SyncSides) (undisturbed : IsUndisturbed ask si
     untouched : places_in sides.target ≡ [] → IsUntouched sides.target.journal (front_of sides.target.span three.reply.position) ask.target_root
     untouched none index entry at = by_test (touches ask.target_root entry)
         (λ near.
-            let inside : IsInSpan sides.target.journal sides.target.span index entry = record { from = at.from; below = omega (arith, at.below, within.up_to); there = at.there } in
-            absurd (subst (λ (places : List ℕ). In places index) none (place-there sides.target index entry inside (undisturbed.quiet index entry inside near))))
+        let inside : IsInSpan sides.target.journal sides.target.span index entry = record { from = at.from; below = omega (arith, at.below, within.up_to); there = at.there } in
+        absurd (subst (λ (places : List ℕ). In places index) none (place-there sides.target index entry inside (undisturbed.quiet index entry inside near))))
         (λ far. far)
 
     -- so its report has no line

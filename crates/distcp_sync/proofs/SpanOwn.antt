@@ -91,12 +91,14 @@ module _ (side : SyncSide) where
   named-mine from [] [] are own = tt
   named-mine from [] (entry ∷ entries) are own = absurd are
   named-mine from (one ∷ more) [] are own = absurd are
-  named-mine from (one ∷ more) (entry ∷ entries) are own =
-      (record {
-        index = one.position;
-        at = record { from = own.0.from; below = own.0.below; there = are.1 };
-        mine = ap (λ (e : Entry). is_one_of side.callers e.caller) (same_some (sym are.1 ∙ own.0.there)) ∙ own.0.mine;
-      }, named-mine (one.position + 1) more entries are.4 own.1)
+  named-mine from (one ∷ more) (entry ∷ entries) are own = (
+    record {
+      index = one.position;
+      at = record { from = own.0.from; below = own.0.below; there = are.1 };
+      mine = ap (λ (e : Entry). is_one_of side.callers e.caller) (same_some (sym are.1 ∙ own.0.there)) ∙ own.0.mine;
+    },
+    named-mine (one.position + 1) more entries are.4 own.1,
+  )
 
   -- the entries that are named are the callers', in the span
   pub all-mine : (made : List Made) (entries : List Entry) → places_in side ≡ map (λ (one : Made). one.position) made → AreEntries side.journal side.span.low made entries → AllByRecursion (IsMine side) entries
