@@ -1,21 +1,21 @@
 -- What a call of the program promises.
-use Rattle.std.specs.Prelude.{◌≡◌, ℕ, ◌≤◌, Bool, true, false, bytes_eq, codes, List, [], ◌∷◌, length, Option, Ok, Err}
-use Rattle.hs_io.specs.Bytes.{Gives, IsEnded, TakesSome}
+use Rattle.std.specs.Prelude.{◌≡◌, ℕ, ◌≤◌, Bool, true, false, List, [], length, Option, Some, Ok, Err}
+use Rattle.hs_io.specs.Bytes.{Gives, IsEnded, Takes, TakesSome}
 use Rattle.script_text.specs.declared.script.Script.{Script}
 use Rattle.script_text.specs.declared.fault.FaultKind.{FaultKind}
+use Rattle.script_text.specs.Generator.{generated}
 use Rattle.script_text.specs.Scripts.{meaning_of}
 use Rattle.run_output.specs.declared.ran.Ran.{Ran}
 use Rattle.run_output.specs.declared.ran.End.{End}
 use Rattle.run_output.specs.declared.ran.Status.{Status}
 use Rattle.run_output.specs.declared.ran.Status.TheVariants as status
 use Rattle.run_output.specs.Run.{IsRunInTurn}
+use Rattle.run_output.specs.Summary.{summary_of}
 use Rattle.run_output.specs.Text.{text_of}
-
--- the command line is the one word `serial`
-abbrev pub is_serial : List (List ℕ) → Bool
-is_serial [] = false
-is_serial (word ∷ []) = bytes_eq word (codes "serial")
-is_serial (word ∷ next ∷ words) = false
+use Rattle.hsnap.specs.declared.command_line.Mode.{Mode}
+use Rattle.hsnap.specs.declared.command_line.Mode.TheVariants as modes
+use Rattle.hsnap.specs.declared.command_line.Words.{Words}
+use Rattle.hsnap.specs.CommandLine.{meaning_of_words}
 
 -- the most bytes that an input has
 abbrev pub most_bytes : ℕ
@@ -33,16 +33,45 @@ pub record IsScriptRead (before now : Option (List ℕ)) (script : Script) : Typ
   pub read : WasRead before now bytes
   pub means : meaning_of bytes ≡ Ok script
 
--- the bytes read mean a script, and this is a run of it in turn; a listing has pages of 1,000 entries
-pub record IsRunOfInput (source_tells target_tells : Bool) (before now : Option (List ℕ)) (ran : Ran) : Type 0 where
-  pub script : Script
-  pub script_read : IsScriptRead before now script
-  pub run : IsRunInTurn source_tells target_tells 1000 script.clients script.lines ran
+-- the script that is run: the one that the input means, or the generated one, for which no byte is read
+abbrev pub IsScriptIn : Mode → ℕ → Option (List ℕ) → Option (List ℕ) → Script → Type 0
+IsScriptIn modes.Serial seed before now script = IsScriptRead before now script
+IsScriptIn modes.Generated seed before now script = (now ≡ before) × (script ≡ generated seed 20 10 5)
 
--- it was run so, and of the text of the run a part from the front was written
-pub record IsCutShort (source_tells target_tells : Bool) (before now written_before written_now : Option (List ℕ)) (ran : Ran) : Type 0 where
-  pub run : IsRunOfInput source_tells target_tells before now ran
-  pub text : TakesSome written_before written_now (text_of ran)
+-- what is written of its run: the text, or the summary of a generated one
+abbrev pub text_in : Mode → ℕ → Ran → List ℕ
+text_in modes.Serial seed ran = text_of ran
+text_in modes.Generated seed ran = summary_of ran seed
+
+-- the words are a command line, and this is a run, in turn, of the script that they ask for, with their size of a page
+pub record IsRunOfWords (source_tells target_tells : Bool) (words : List (List ℕ)) (before now : Option (List ℕ)) (ran : Ran) : Type 0 where
+  pub meaning : Words
+  pub words_mean : meaning_of_words words ≡ Some meaning
+  pub script : Script
+  pub script_is : IsScriptIn meaning.mode meaning.seed before now script
+  pub run : IsRunInTurn source_tells target_tells meaning.page script.clients script.lines ran
+
+-- it was run so, and all of its text was written
+pub record IsDone (source_tells target_tells : Bool) (words : List (List ℕ)) (before now written_before written_now : Option (List ℕ)) (ran : Ran) : Type 0 where
+  pub run : IsRunOfWords source_tells target_tells words before now ran
+  pub text : Takes written_before written_now (text_in run.meaning.mode run.meaning.seed ran)
+
+-- it was run so, and of its text a part from the front was written
+pub record IsCutShort (source_tells target_tells : Bool) (words : List (List ℕ)) (before now written_before written_now : Option (List ℕ)) (ran : Ran) : Type 0 where
+  pub run : IsRunOfWords source_tells target_tells words before now ran
+  pub text : TakesSome written_before written_now (text_in run.meaning.mode run.meaning.seed ran)
+
+-- the words ask for the script that the input means
+pub record AsksForInput (words : List (List ℕ)) : Type 0 where
+  pub meaning : Words
+  pub words_mean : meaning_of_words words ≡ Some meaning
+  pub serial : meaning.mode ≡ modes.Serial
+
+-- the words ask for the generated script
+pub record AsksForGenerated (words : List (List ℕ)) : Type 0 where
+  pub meaning : Words
+  pub words_mean : meaning_of_words words ≡ Some meaning
+  pub generated : meaning.mode ≡ modes.Generated
 
 -- the first bad line of the bytes read is this
 pub record IsBadScript (before now : Option (List ℕ)) (line : ℕ) (kind : FaultKind) : Type 0 where

@@ -1,40 +1,30 @@
 //! The top call: from bytes to bytes, one call after the other.
-ghost use Rattle.std.specs.Prelude.{◌≡◌, ◌≤◌, ◌<◌, ◌↔◌, ◌⊎◌, true, false, List, [], ℕ, Option, Some, Ok, Err, is_some, length, IfOk, IfErr, IfSome, OnOk, OnErr};
-ghost use Rattle.std.specs.List.{list_all};
+ghost use Rattle.std.specs.Prelude.{◌≡◌, ◌≤◌, ◌<◌, ◌⊎◌, true, false, List, [], ℕ, Option, None, Some, Ok, Err, is_some, length, IfOk, IfErr, IfSome};
 ghost use Rattle.hs_io.specs.Bytes.{Takes, TakesSome, GivesWithin, GivesPast};
 ghost use Rattle.hs_types.specs.Faults.{Rose};
 ghost use Rattle.namenode_write.specs.Faulted.{fault_count};
 ghost use Rattle.namenode_write.specs.FaultCounts.{RisesAtMost};
 ghost use Rattle.script_text.specs.Scripts.{meaning_of};
-ghost use Rattle.script_text.specs.Today.{is_line_today};
+ghost use Rattle.script_text.specs.Generator.{generated};
 ghost use Rattle.script_text.specs.declared.fault.FaultKind.{FaultKind};
 ghost use Rattle.script_text.specs.declared.script.Script.{Script};
 ghost use Rattle.run_output.specs.Run.{IsRunInTurn};
-ghost use Rattle.run_output.specs.Text.{text_of as plain_text_of};
 ghost use Rattle.script_text.specs.Order.{are_ordered};
 ghost use Rattle.hsnap.specs.ReadStatus.{IsReadCause};
-ghost use Rattle.hsnap.specs.Serial.{is_serial as is_plain_serial, most_bytes, IsScriptRead, IsRunOfInput, IsCutShort, IsBadScript, IsScriptOrNoMemory, is_too_large_or_no_memory, not_run, no_end as plain_no_end, is_early, is_ok_or_no_memory};
+ghost use Rattle.hsnap.specs.CommandLine.{meaning_of_words};
+ghost use Rattle.hsnap.specs.Serial.{most_bytes, IsScriptRead, IsScriptIn, text_in, IsDone, IsCutShort, AsksForInput, AsksForGenerated, IsBadScript, IsScriptOrNoMemory, is_too_large_or_no_memory, not_run, no_end as plain_no_end, is_early, is_ok_or_no_memory};
 
+use crate::command_line::{Mode, Words, WordsFault, read_words};
 use block_store::BlockStore;
 use hs_io::{InputErr, Sink, SinkErr, Source, read_all, write_all};
-use hs_types::{Counts, List, NameText, NoMemory, PageSize};
-use run_output::{End, Ran, Status, text_of};
+use hs_types::{Counts, List, NameText, NoMemory};
+use run_output::{End, Ran, Status, summary_of, text_of};
 use script_runner::{Options, serial_script};
-use script_text::{ReadScriptFault, Script, ScriptFault};
+use script_text::{ReadScriptFault, Script, ScriptFault, generate};
 use std::alloc::Global;
 
 /// The most bytes that an input has.
 const MOST_BYTES: usize = 16_777_216;
-
-/// Whether the words are the command line.
-fn is_serial(words: &[NameText]) -> bool
-    ensures { result ≡ is_plain_serial words.now }
-{
-    match words {
-        [word] => word.text() == "serial",
-        _ => false,
-    }
-}
 
 /// A run in which nothing was run.
 fn unrun(alloc: Global, status: Status) -> Ran
@@ -68,10 +58,9 @@ fn no_end(alloc: Global) -> End
 /// Reads the whole input, and the script that it means.
 fn read_script<I: Source>(alloc: Global, input: &mut I) -> Result<Script, Status>
     ensures script { IfOk result (IsScriptRead (I.rest input.old) (I.rest input.new)) }
-    ensures today { IfOk result (λ script. list_all is_line_today script.lines ≡ true) }
     ensures few_clients { IfOk result (λ script. script.clients ≤ 16) }
     ensures order { IfOk result (λ script. are_ordered script.clients 0 script.lines ≡ true) }
-    ensures cause { IfErr result (IsReadCause (I.rest input.old) (I.rest input.new) (I.faults input.old) (I.faults input.new)) }
+    ensures cause { IfErr result (λ status. (words : List (List ℕ)) → AsksForInput words → IsReadCause words (I.rest input.old) (I.rest input.new) (I.faults input.old) (I.faults input.new) status) }
     ensures count { I.faults input.old ≤ I.faults input.new }
 {
     let bytes = match read_all(alloc, input, MOST_BYTES) {
@@ -87,15 +76,80 @@ fn read_script<I: Source>(alloc: Global, input: &mut I) -> Result<Script, Status
     }
 }
 
-/// Writes the text of a run, and answers the status that this gives.
-fn write_text<O: Sink>(alloc: Global, ran: &Ran, output: &mut O) -> Status
-    ensures ok { result ≡ Status.Ok → Takes (O.written output.old) (O.written output.new) (plain_text_of ran.now) }
-    ensures some { TakesSome (O.written output.old) (O.written output.new) (plain_text_of ran.now) }
+/// The script of mode `gen`: 20 directories of 10 files each, and 5 snapshots.
+fn generated_script(alloc: Global, seed: u32) -> Result<Script, Status>
+    ensures script { IfOk result (λ script. script ≡ generated seed 20 10 5) }
+    ensures few_clients { IfOk result (λ script. script.clients ≤ 16) }
+    ensures order { IfOk result (λ script. are_ordered script.clients 0 script.lines ≡ true) }
+    ensures cause { IfErr result (λ status. status ≡ Status.NoMemory) }
+{
+    match generate(alloc, seed, 20, 10, 5) {
+        Ok(script) => Ok(script),
+        Err(NoMemory) => Err(Status::NoMemory),
+    }
+}
+
+/// The script that the words of the command line ask for.
+fn script_of<I: Source>(alloc: Global, words: &Words, input: &mut I) -> Result<Script, Status>
+    ensures script { IfOk result (IsScriptIn words.now.mode words.now.seed (I.rest input.old) (I.rest input.new)) }
+    ensures few_clients { IfOk result (λ script. script.clients ≤ 16) }
+    ensures order { IfOk result (λ script. are_ordered script.clients 0 script.lines ≡ true) }
+    ensures cause { IfErr result (λ status. (texts : List (List ℕ)) → meaning_of_words texts ≡ Some words.now → IsReadCause texts (I.rest input.old) (I.rest input.new) (I.faults input.old) (I.faults input.new) status) }
+    ensures count { I.faults input.old ≤ I.faults input.new }
+{
+    match words.mode {
+        Mode::Serial => read_script(alloc, input),
+        Mode::Generated => generated_script(alloc, words.seed),
+    }
+}
+
+/// A script, with what the words ask for beside it.
+struct Asked {
+    words: Words,
+    script: Script,
+}
+
+/// Reads the words of the command line, and the script that they ask for.
+fn read_asked<I: Source>(
+    alloc: Global,
+    words: &List<NameText>,
+    input: &mut I,
+) -> Result<Asked, Status>
+    ensures words { IfOk result (λ asked. meaning_of_words words.now ≡ Some asked.words) }
+    ensures script { IfOk result (λ asked. IsScriptIn asked.words.mode asked.words.seed (I.rest input.old) (I.rest input.new) asked.script) }
+    ensures few_clients { IfOk result (λ asked. asked.script.clients ≤ 16) }
+    ensures order { IfOk result (λ asked. are_ordered asked.script.clients 0 asked.script.lines ≡ true) }
+    ensures cause { IfErr result (IsReadCause words.now (I.rest input.old) (I.rest input.new) (I.faults input.old) (I.faults input.new)) }
+    ensures count { I.faults input.old ≤ I.faults input.new }
+{
+    let words = match read_words(alloc, words) {
+        Ok(words) => words,
+        Err(WordsFault::Usage) => return Err(Status::Usage),
+        Err(WordsFault::NoMemory) => return Err(Status::NoMemory),
+    };
+    let script = script_of(alloc, &words, input)?;
+    Ok(Asked { words, script })
+}
+
+/// The text of a run, or the summary of a generated one.
+fn text_by(alloc: Global, words: &Words, ran: &Ran) -> Result<List<u8>, NoMemory>
+    ensures { IfOk result (λ text. text ≡ text_in words.now.mode words.now.seed ran.now) }
+{
+    match words.mode {
+        Mode::Serial => text_of(alloc, ran),
+        Mode::Generated => summary_of(alloc, ran, words.seed),
+    }
+}
+
+/// Writes what the words ask for of a run, and answers the status that this gives.
+fn write_text<O: Sink>(alloc: Global, words: &Words, ran: &Ran, output: &mut O) -> Status
+    ensures ok { result ≡ Status.Ok → Takes (O.written output.old) (O.written output.new) (text_in words.now.mode words.now.seed ran.now) }
+    ensures some { TakesSome (O.written output.old) (O.written output.new) (text_in words.now.mode words.now.seed ran.now) }
     ensures cause { result ≡ Status.WriteFault → Rose (O.faults output.old) (O.faults output.new) }
     ensures late { is_early result ≡ false }
     ensures count { O.faults output.old ≤ O.faults output.new }
 {
-    let Ok(text) = text_of(alloc, ran) else {
+    let Ok(text) = text_by(alloc, words, ran) else {
         return Status::NoMemory;
     };
     match write_all(output, text.items()) {
@@ -108,18 +162,17 @@ fn write_text<O: Sink>(alloc: Global, ran: &Ran, output: &mut O) -> Status
 /// Runs a script over two stores without blocks, and writes the text of the run.
 fn run_and_write<O: Sink, B: BlockStore>(
     alloc: Global,
-    script: Script,
+    asked: Asked,
     output: &mut O,
     source_blocks: B,
     target_blocks: B,
 ) -> Ran
-    requires today { list_all is_line_today script.lines ≡ true }
-    requires few_clients { script.clients ≤ 16 }
-    requires order { are_ordered script.clients 0 script.lines ≡ true }
+    requires few_clients { asked.script.clients ≤ 16 }
+    requires order { are_ordered asked.script.clients 0 asked.script.lines ≡ true }
     requires source_empty { IfSome (B.blocks source_blocks) (λ map. map ≡ []) }
     requires target_empty { IfSome (B.blocks target_blocks) (λ map. map ≡ []) }
-    ensures text { result.status ≡ Status.Ok → Takes (O.written output.old) (O.written output.new) (plain_text_of result) }
-    ensures run { (IsRunInTurn (is_some (B.blocks source_blocks)) (is_some (B.blocks target_blocks)) 1000 script.clients script.lines result × TakesSome (O.written output.old) (O.written output.new) (plain_text_of result))
+    ensures text { result.status ≡ Status.Ok → Takes (O.written output.old) (O.written output.new) (text_in asked.words.mode asked.words.seed result) }
+    ensures run { (IsRunInTurn (is_some (B.blocks source_blocks)) (is_some (B.blocks target_blocks)) asked.words.page asked.script.clients asked.script.lines result × TakesSome (O.written output.old) (O.written output.new) (text_in asked.words.mode asked.words.seed result))
         ⊎ ((result ≡ not_run Status.NoMemory) × (output.new ≡ output.old)) }
     ensures cause { result.status ≡ Status.WriteFault → Rose (O.faults output.old) (O.faults output.new) }
     ensures late { is_early result.status ≡ false }
@@ -127,22 +180,24 @@ fn run_and_write<O: Sink, B: BlockStore>(
     ensures source_faulted { (most : ℕ) → RisesAtMost most B.faults (B.faults source_blocks) → fault_count result.source ≤ most }
     ensures target_faulted { (most : ℕ) → RisesAtMost most B.faults (B.faults target_blocks) → fault_count result.target ≤ most }
 {
+    let Asked { words, script } = asked;
     let options = Options {
-        page: PageSize::greatest(),
-        workers: 1,
+        page: words.page,
+        workers: words.workers,
     };
     match serial_script(alloc, script, &options, source_blocks, target_blocks) {
         Ok(mut ran) => {
-            ran.status = write_text(alloc, &ran, output);
+            ran.status = write_text(alloc, &words, &ran, output);
             ran
         }
         Err(NoMemory) => unrun(alloc, Status::NoMemory),
     }
 }
 
-/// Reads a script from `input`, runs it on two new namenodes, one call after the other, and writes the text
-/// of the run to `output`. `words` are the words of the command line, without the program's own name. The bytes of
-/// files are kept in two stores, which hold no block yet.
+/// Runs the script that the words of the command line ask for on two new namenodes, one call after the other, and writes
+/// to `output`: in mode `serial` the script is read from `input`, and the text of its run is written; in mode `gen` it is
+/// the generated script, and the summary of its run is written. `words` are without the program's own name. The bytes
+/// of files are kept in two stores, which hold no block yet.
 pub fn serial<I: Source, O: Sink, B: BlockStore>(
     alloc: Global,
     words: &List<NameText>,
@@ -155,14 +210,15 @@ pub fn serial<I: Source, O: Sink, B: BlockStore>(
     requires source_empty { IfSome (B.blocks source_blocks) (λ map. map ≡ []) }
     requires target_empty { IfSome (B.blocks target_blocks) (λ map. map ≡ []) }
 
-    // With status Ok the bytes read, to the end of the input, mean a script; the answer is a run of it in turn;
-    // and what was written is the text of that run. Of a side whose store doesn't tell its blocks, the bytes that replies
-    // hold are not claimed.
-    ensures ok { result.status ≡ Status.Ok → IsRunOfInput (is_some (B.blocks source_blocks)) (is_some (B.blocks target_blocks)) (I.rest input.old) (I.rest input.new) result }
-    ensures text { result.status ≡ Status.Ok → Takes (O.written output.old) (O.written output.new) (plain_text_of result) }
+    // With status Ok the words are a command line; the bytes read, to the end of the input, mean a script, or no byte was
+    // read and the script is the generated one; the answer is a run of it in turn; and what was written is the text of
+    // that run, or its summary. Of a side whose store doesn't tell its blocks, the bytes that replies hold are not claimed.
+    ensures ok { result.status ≡ Status.Ok →
+        IsDone (is_some (B.blocks source_blocks)) (is_some (B.blocks target_blocks)) words.now (I.rest input.old) (I.rest input.new) (O.written output.old) (O.written output.new) result }
 
     // The causes of the other statuses.
-    ensures usage { (result.status ≡ Status.Usage) ↔ (is_plain_serial words.now ≡ false) }
+    ensures usage { result.status ≡ Status.Usage → meaning_of_words words.now ≡ None }
+    ensures unusable { meaning_of_words words.now ≡ None → (result.status ≡ Status.Usage) ⊎ (result.status ≡ Status.NoMemory) }
     ensures script { (line : ℕ) (kind : FaultKind) → result.status ≡ Status.Script line kind → IsBadScript (I.rest input.old) (I.rest input.new) line kind }
     ensures read_fault { result.status ≡ Status.ReadFault → Rose (I.faults input.old) (I.faults input.new) }
     ensures write_fault { result.status ≡ Status.WriteFault → Rose (O.faults output.old) (O.faults output.new) }
@@ -176,9 +232,9 @@ pub fn serial<I: Source, O: Sink, B: BlockStore>(
     // After a fault of writing the answer is a run of the script, as with status Ok, and a part of its text from the front
     // was written. Want of memory is free: it ends a run so, or nothing was run, and nothing was written.
     ensures cut_short { result.status ≡ Status.WriteFault →
-        IsCutShort (is_some (B.blocks source_blocks)) (is_some (B.blocks target_blocks)) (I.rest input.old) (I.rest input.new) (O.written output.old) (O.written output.new) result }
+        IsCutShort (is_some (B.blocks source_blocks)) (is_some (B.blocks target_blocks)) words.now (I.rest input.old) (I.rest input.new) (O.written output.old) (O.written output.new) result }
     ensures no_memory { result.status ≡ Status.NoMemory →
-        IsCutShort (is_some (B.blocks source_blocks)) (is_some (B.blocks target_blocks)) (I.rest input.old) (I.rest input.new) (O.written output.old) (O.written output.new) result
+        IsCutShort (is_some (B.blocks source_blocks)) (is_some (B.blocks target_blocks)) words.now (I.rest input.old) (I.rest input.new) (O.written output.old) (O.written output.new) result
         ⊎ ((result ≡ not_run Status.NoMemory) × (output.new ≡ output.old)) }
 
     // With the early statuses nothing was written, and nothing was run.
@@ -186,18 +242,21 @@ pub fn serial<I: Source, O: Sink, B: BlockStore>(
     ensures unrun { is_early result.status ≡ true → result ≡ not_run result.status }
 
     // Where the words are right, and the input is a script within its limit, and neither end fails, all is done.
-    ensures complete { (rest : List ℕ) (script : Script) → is_plain_serial words.now ≡ true →
+    ensures complete { (rest : List ℕ) (script : Script) → AsksForInput words.now →
         I.rest input.old ≡ Some rest → length rest ≤ most_bytes → meaning_of rest ≡ Ok script →
         (Rose (I.faults input.old) (I.faults input.new) → ⊥) → (Rose (O.faults output.old) (O.faults output.new) → ⊥) →
         is_ok_or_no_memory result.status ≡ true }
 
+    // For a generated script the output alone can fail.
+    ensures generated { AsksForGenerated words.now → (Rose (O.faults output.old) (O.faults output.new) → ⊥) → is_ok_or_no_memory result.status ≡ true }
+
     // And a script whose first bad line is this is refused there.
-    ensures refused { (rest : List ℕ) (line : ℕ) (kind : FaultKind) → is_plain_serial words.now ≡ true →
+    ensures refused { (rest : List ℕ) (line : ℕ) (kind : FaultKind) → AsksForInput words.now →
         I.rest input.old ≡ Some rest → length rest ≤ most_bytes → meaning_of rest ≡ Err (record { line = line; kind = kind }) →
         (Rose (I.faults input.old) (I.faults input.new) → ⊥) → IsScriptOrNoMemory line kind result.status }
 
     // An input of more bytes is too large.
-    ensures large { (rest : List ℕ) → is_plain_serial words.now ≡ true → I.rest input.old ≡ Some rest → most_bytes < length rest →
+    ensures large { (rest : List ℕ) → AsksForInput words.now → I.rest input.old ≡ Some rest → most_bytes < length rest →
         (Rose (I.faults input.old) (I.faults input.new) → ⊥) → is_too_large_or_no_memory result.status ≡ true }
 
     // Over stores whose counts never rise the journals have no faulted entry; where they rise at most so often, there
@@ -210,11 +269,8 @@ pub fn serial<I: Source, O: Sink, B: BlockStore>(
     ensures reads { I.faults input.old ≤ I.faults input.new }
     ensures writes { O.faults output.old ≤ O.faults output.new }
 {
-    if !is_serial(words.items()) {
-        return unrun(alloc, Status::Usage);
-    }
-    match read_script(alloc, input) {
-        Ok(script) => run_and_write(alloc, script, output, source_blocks, target_blocks),
+    match read_asked(alloc, words, input) {
+        Ok(asked) => run_and_write(alloc, asked, output, source_blocks, target_blocks),
         Err(status) => unrun(alloc, status),
     }
 }

@@ -120,35 +120,55 @@ fn status_of(
     serial(alloc, words, source, sink, blocks, others).status
 }
 
-/// How a run with this word ends, which writes to the sink.
+/// How a run with these words ends, which writes to the sink.
 fn run_to(
     alloc: Global,
-    word: &str,
+    line: &str,
     mut source: MemSource,
     sink: &mut MemSink,
 ) -> Result<Status, NoMemory> {
-    let words = words_of(alloc, word)?;
+    let words = words_of(alloc, line)?;
     Ok(status_of(alloc, &words, &mut source, sink))
 }
 
 /// Writes how a run ends and what it wrote, where this call of the sink fails.
 fn write_run(
     alloc: Global,
-    word: &str,
+    line: &str,
     source: MemSource,
     fails: u64,
     out: &mut String,
 ) -> Result<(), NoMemory> {
     let mut sink = MemSink::new(alloc, one(alloc, fails)?);
-    let status = run_to(alloc, word, source, &mut sink)?;
+    let status = run_to(alloc, line, source, &mut sink)?;
     let written = str::from_utf8(sink.written().items()).unwrap_or("?");
     Ok(write!(out, "{status:?} {written}.")?)
 }
 
-/// The word of the command line, a script with the length of a comment behind it, the calls of the source and the sink that
+/// The words of the command line, a script with the length of a comment behind it, the calls of the source and the sink that
 /// fail (0 is none), and what the status and the text begin with.
-const RUNS: [(&str, &str, u32, u64, u64, &str); 9] = [
+const RUNS: [(&str, &str, u32, u64, u64, &str); 13] = [
+    ("", "", 0, 0, 0, "Usage ."),
     ("walk", "", 0, 0, 0, "Usage ."),
+    ("serial --page 0", "", 0, 0, 0, "Usage ."),
+    // A generated script: nothing is read, from a source that would fail.
+    (
+        "gen --seed 7",
+        "s ls /\n",
+        0,
+        1,
+        0,
+        "Ok gen seed 7\nsource entries 237 nodes 224 snapshots 5\n\
+         target entries 237 nodes 224 snapshots 3\nsyncs 2 done 2\n.",
+    ),
+    (
+        "--page 1 serial",
+        "s mkdir /a\ns mkdir /b\ns ls /\n",
+        0,
+        0,
+        0,
+        "Ok setup\n1 s@0 made 2\n2 s@1 made 3\n3 s@2 page 1 more\n  dir 2 a\n3 s@2 page 1 end\n",
+    ),
     (
         "serial",
         "s mkdir /a\nt ls /\n",
@@ -178,22 +198,22 @@ const RUNS: [(&str, &str, u32, u64, u64, &str); 9] = [
 /// Whether a run begins with this text.
 fn gives(
     alloc: Global,
-    word: &str,
+    line: &str,
     source: MemSource,
     fails: u64,
     text: &str,
 ) -> Result<bool, NoMemory> {
     let mut out = String::new(alloc);
-    write_run(alloc, word, source, fails, &mut out)?;
+    write_run(alloc, line, source, fails, &mut out)?;
     Ok(out.as_str().starts_with(text))
 }
 
 #[test]
 fn a_run_ends_as_its_ends_do(rt: HostRuntime) -> Result<(), Fail> {
     let alloc = rt.alloc();
-    for (word, script, comment, read, write, text) in RUNS {
+    for (line, script, comment, read, write, text) in RUNS {
         let source = source_of(alloc, bytes_of(alloc, script, comment)?, read)?;
-        assert!(rt; gives(alloc, word, source, write, text)?, "{text}");
+        assert!(rt; gives(alloc, line, source, write, text)?, "{text}");
     }
     Ok(())
 }

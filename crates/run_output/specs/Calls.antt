@@ -100,13 +100,13 @@ kept_by page kept (commands.Sync source target from to) said = kept
 
 -- ---- a command
 
--- what a command's calls were and what they were told; no run has a sync yet
+-- what a command's calls were and what they were told; the calls of a sync are its own
 abbrev pub AreOf : ℕ → Kept → Command → List Said → Type 0
 AreOf page kept (commands.Call side call) said = IsOne (Some call) said
 AreOf page kept (commands.All side what) said = AreAllPages (behind page what) (Some (first_call page what)) said
 AreOf page kept (commands.First side what) said = IsOne (Some (first_call page what)) said
 AreOf page kept (commands.More side kind) said = IsOne (kept side kind) said
-AreOf page kept (commands.Sync source target from to) said = ⊥
+AreOf page kept (commands.Sync source target from to) said = said ≡ []
 
 -- the namenode that a command's calls go to; those of a sync go to both
 abbrev pub side_of : Command → Option Side

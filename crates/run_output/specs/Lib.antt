@@ -1,7 +1,11 @@
 pub mod CallText
 pub mod Calls
+pub mod ReplyText
 pub mod Run
 pub mod Statuses
 pub mod Steps
+pub mod Summary
+pub mod SyncText
+pub mod Syncs
 pub mod Text
 pub mod TextParts

@@ -1,5 +1,5 @@
 -- What a run of a script is.
-use Rattle.std.specs.Prelude.{◌≡◌, ℕ, ◌+◌, ◌*◌, ◌≤◌, Bool, true, false, ◌&&◌, ◌==◌, nat_lt, List, [], ◌∷◌, ◌++◌, map, length, slice_get, Option, Some, None, ⊤}
+use Rattle.std.specs.Prelude.{◌≡◌, ℕ, ◌+◌, ◌*◌, ◌≤◌, Bool, true, false, ◌&&◌, ◌==◌, nat_lt, List, [], ◌∷◌, ◌++◌, map, length, Option, Some, None, ⊤}
 use Rattle.std.specs.List.{filter_map, flat_map, list_all, AllByRecursion}
 use Rattle.hs_types.specs.declared.ids.CallerId.{CallerId}
 use Rattle.hs_types.specs.declared.ids.Side.{Side}
@@ -11,6 +11,8 @@ use Rattle.hs_types.specs.Limits.{journal_limit}
 use Rattle.hs_plain.specs.Legal.{Said, IsLegalCall, places_of}
 use Rattle.hs_plain.specs.Replay.{plain_after, is_proper}
 use Rattle.hs_plain.specs.Lines.{tree_lines}
+use Rattle.distcp_sync.specs.Calls.{IsMadeIn, IsFailedRead}
+use Rattle.distcp_sync.specs.Synced.{IsSynced}
 use Rattle.script_text.specs.declared.script.ScriptLine.{ScriptLine}
 use Rattle.script_text.specs.declared.script.Section.{Section}
 use Rattle.script_text.specs.declared.script.Section.TheVariants as sections
@@ -19,9 +21,10 @@ use Rattle.run_output.specs.declared.ran.End.{End}
 use Rattle.run_output.specs.declared.ran.ClientLog.{ClientLog}
 use Rattle.run_output.specs.declared.ran.LogItem.{LogItem}
 use Rattle.run_output.specs.declared.ran.LogWhat.{LogWhat}
-use Rattle.run_output.specs.declared.ran.LogWhat.TheVariants.{Replies, NoCursor}
+use Rattle.run_output.specs.declared.ran.LogWhat.TheVariants.{Replies, NoCursor, Synced}
 use Rattle.run_output.specs.Calls.{none_kept, side_of}
-use Rattle.run_output.specs.Steps.{Sections, LineRun, AreCalls, kept_after, Made, Step, steps_to, in_order, said_in, made_in, are_counted, rises, in_turn, reached, all_reached, left_at}
+use Rattle.run_output.specs.Steps.{Sections, SyncRun, LineRun, AreCalls, kept_after, Step, steps_to, in_order, said_in, made_in, failed_in, are_counted, rises, in_turn, reached, all_reached, left_at}
+use Rattle.run_output.specs.Syncs.{Journals, AreSyncs}
 
 -- ---- lines and logs
 
@@ -56,9 +59,14 @@ abbrev pub logged : ℕ → Option Side → List Said → List LogItem
 logged line None said = []
 logged line (Some side) said = record { line = line; what = what_of side (map (λ s. s.told) said) } ∷ []
 
+-- a sync logs its report
+abbrev pub sync_logged : ℕ → Option SyncRun → List LogItem
+sync_logged line None = []
+sync_logged line (Some sync) = record { line = line; what = Synced sync.report } ∷ []
+
 -- an item for each line
 abbrev pub items_of : List LineRun → List LogItem
-items_of runs = flat_map (λ run. logged run.line.line (side_of run.line.command) run.said) runs
+items_of runs = flat_map (λ run. sync_logged run.line.line run.synced ++ logged run.line.line (side_of run.line.command) run.said) runs
 
 abbrev pub client_logs : ℕ → List (List LineRun) → List ClientLog
 client_logs client [] = []
@@ -77,20 +85,13 @@ caller c = record { 0 = c }
 abbrev pub IsLegal : Bool → List Entry → ℕ → Said → Type 0
 IsLegal tells journal c said = IsLegalCall tells journal_limit journal (caller c) said.seq said.call said.told
 
--- a sync of this caller made this entry
-pub record IsMade (journal : List Entry) (c : ℕ) (made : Made) : Type 0 where
-  pub entry : Entry
-  pub there : slice_get journal made.position ≡ Some entry
-  pub of_caller : entry.caller.0 ≡ c
-  pub caller_is : made.caller ≡ c
-  pub seq_is : entry.seq ≡ made.seq
-
 -- a caller's replies are legal, and its entries in the journal are those of its steps, in order
 pub record AreLegal (tells : Bool) (journal : List Entry) (c : ℕ) (steps : List Step) : Type 0 where
   pub each : AllByRecursion (IsLegal tells journal c) (filter_map said_in steps)
   -- its calls are counted from 1
   pub numbers : are_counted 0 steps ≡ true
-  pub made_each : AllByRecursion (IsMade journal c) (filter_map made_in steps)
+  pub made_each : AllByRecursion (IsMadeIn journal (caller c)) (filter_map made_in steps)
+  pub failed_each : AllByRecursion (IsFailedRead journal (caller c)) (filter_map failed_in steps)
   pub entries : places_of c 0 journal ≡ filter_map left_at steps
 
 -- client c is caller c
@@ -138,6 +139,8 @@ pub record IsRun (source_tells target_tells : Bool) (page clients : ℕ) (script
   pub finish_calls : AreCalls page (kept_after page none_kept runs.setup) runs.finish
   pub source : IsSide source_tells ran.source (steps_to Source runs)
   pub target : IsSide target_tells ran.target (steps_to Target runs)
+  -- each sync did what its report tells, between what was known before it and what was done behind it
+  pub syncs : AreSyncs (λ ask sides report. IsSynced ask page sides report) (record { source = ran.source; target = ran.target; source_tells = source_tells; target_tells = target_tells }) runs
   pub source_end : IsEndOf ran.source ran.source_end
   pub target_end : IsEndOf ran.target ran.target_end
 

@@ -3,6 +3,7 @@
 ghost use Rattle.std.specs.Prelude.{◌≡◌};
 ghost use Rattle.run_output.specs.Statuses.{exit_number};
 
+use distcp_sync::SyncReport;
 use hs_types::{Answered, Counts, Entry, List, Side, TreeLine};
 use script_text::{FaultKind, Section};
 
@@ -75,11 +76,13 @@ pub struct LogItem {
     pub what: LogWhat,
 }
 
-/// What the calls of a command were told, with the side that they were made to.
+/// What the calls of a command were told, with the side that they were made to, or what a sync did.
 #[derive(Debug, Drop, PartialEq, Eq)]
 pub enum LogWhat {
     /// The replies, in order.
     Replies { side: Side, list: List<Answered> },
     /// No call was made, since no cursor was kept for the next page.
     NoCursor { side: Side },
+    /// A sync of a target with a source.
+    Synced(SyncReport),
 }

@@ -7,9 +7,11 @@ ghost use Rattle.run_output.specs.TextParts.{spaced, ended, indented, escaped, s
 ghost use Rattle.hs_types.specs.declared.call.Call.TheVariants as calls;
 ghost use Rattle.hs_types.specs.declared.reply.Reply.TheVariants.{Refused};
 ghost use Rattle.run_output.specs.CallText.{create_word, delete_word, call_text};
-ghost use Rattle.run_output.specs.Text.{side_word, kind_word, more_or_end, reply_text, item_text, snap_text, dir_text, letter, relative, target_text, line_text, further_lines, reply_line, answered_lines, item_lines, heading, log_lines, marked, entry_line, journal_lines, node_name, dir_line, file_line, node_line, tree_lines, text_of};
+ghost use Rattle.run_output.specs.ReplyText.{side_word, kind_word, more_or_end, reply_text, item_text, snap_text, dir_text, letter, relative, target_text, line_text, further_lines, reply_line, answered_lines};
+ghost use Rattle.run_output.specs.Text.{item_lines, heading, log_lines, marked, entry_line, journal_lines, node_name, dir_line, file_line, node_line, tree_lines, text_of};
 
 use crate::ran::{ClientLog, LogItem, LogWhat, Ran};
+use crate::sync_text::write_sync;
 use hs_types::{
     Answered, Call, DirItem, Entry, EntryKind, Item, Line, LineKind, List, Mode, Name, NoMemory,
     Place, ReadCursor, ReadLen, Refusal, RelPath, Reply, Side, SnapItem, TreeLine,
@@ -75,6 +77,7 @@ fn write_item(out: &mut String, item: &LogItem) -> Result<(), NoMemory>
             writeln!(out, "{} {} no cursor", item.line, side_word(*side))?;
             Ok(())
         }
+        LogWhat::Synced(report) => write_sync(out, item.line, &report.answer),
     }
 }
 
@@ -256,8 +259,16 @@ fn write_lines(out: &mut String, lines: &[Line]) -> Result<(), NoMemory>
 fn write_line(out: &mut String, line: &Line) -> Result<(), NoMemory>
     ensures { OnOk result (string_bytes out.new ≡ string_bytes out.old ++ ended (indented (line_text line.now))) }
 {
+    out.push_str("  ")?;
+    write_line_text(out, line)
+}
+
+/// The text of a line of a report ends the line that it stands in.
+pub(crate) fn write_line_text(out: &mut String, line: &Line) -> Result<(), NoMemory>
+    ensures { OnOk result (string_bytes out.new ≡ string_bytes out.old ++ ended (line_text line.now)) }
+{
     let letter = letter(line.kind);
-    write!(out, "  {letter} ")?;
+    write!(out, "{letter} ")?;
     write_relative(out, line.path.items())?;
     write_target(out, line.kind, &line.to)?;
     out.push_str("\n")?;
@@ -307,7 +318,7 @@ fn write_entry(out: &mut String, index: usize, entry: &Entry) -> Result<(), NoMe
 }
 
 /// The text of a call ends the line that it stands in.
-fn write_call(out: &mut String, call: &Call) -> Result<(), NoMemory>
+pub(crate) fn write_call(out: &mut String, call: &Call) -> Result<(), NoMemory>
     ensures { OnOk result (string_bytes out.new ≡ string_bytes out.old ++ ended (call_text call.now)) }
 {
     match call {
@@ -338,8 +349,8 @@ fn write_call(out: &mut String, call: &Call) -> Result<(), NoMemory>
     }
 }
 
-/// A call of a command with one path.
-fn write_path_call(out: &mut String, word: &str, path: &str) -> Result<(), NoMemory>
+/// A word and a path, which end a line.
+pub(crate) fn write_path_call(out: &mut String, word: &str, path: &str) -> Result<(), NoMemory>
     ensures { OnOk result (string_bytes out.new ≡ string_bytes out.old ++ ended (spaced (word.now ∷ escaped path.now ∷ []))) }
 {
     writeln!(out, "{word} {}", escaped(path))?;
@@ -462,7 +473,7 @@ fn write_mode(out: &mut String, mode: Mode) -> Result<(), NoMemory>
     Ok(())
 }
 
-fn side_word(side: Side) -> &'static str
+pub(crate) fn side_word(side: Side) -> &'static str
     ensures { result.now ≡ side_word side }
 {
     match side {
@@ -530,7 +541,7 @@ fn node_name(name: &Option<Name>) -> PercentEncode<'_>
     }
 }
 
-fn escaped(text: &str) -> PercentEncode<'_>
+pub(crate) fn escaped(text: &str) -> PercentEncode<'_>
     ensures { encoded_text result ≡ escaped text.now }
 {
     utf8_percent_encode(text, ESCAPED)

@@ -1,5 +1,5 @@
 -- The calls of one command: what is asked for through a link.
-use Rattle.std.proofs.Common.{◌≡◌, ℕ, Option, Some, None, List, [], ◌∷◌, refl, ap, sym, ◌∙◌, subst}
+use Rattle.std.proofs.Common.{◌≡◌, ℕ, Option, Some, None, List, [], ◌∷◌, refl, ap, sym, ◌∙◌}
 use Rattle.std.proofs.Math.Path.{fun_ext}
 use Rattle.std.specs.Prelude.{IfOk, OnOk, Result, Ok, Err}
 use Rattle.hs_types.specs.declared.ids.Side.{Side}
@@ -18,14 +18,14 @@ use Rattle.page_join.specs.declared.paging.Paging.{Paging}
 use Rattle.page_join.specs.declared.paging.Paging.TheVariants.{Items, Lines, Bytes}
 use Rattle.page_join.specs.Links.{Known, IsCall, said_by}
 use Rattle.page_join.specs.Paging.{Asks, call_at, next_call, next_of, ArePages}
-use Rattle.script_text.specs.declared.command.Command.TheVariants as commands
 use Rattle.script_text.specs.declared.command.Pages.{Pages}
 use Rattle.script_text.specs.declared.command.Pages.TheVariants as pages
 use Rattle.script_text.specs.declared.command.PagesKind.{PagesKind}
 use Rattle.script_text.specs.declared.command.PagesKind.TheVariants as kinds
 use Rattle.run_output.specs.Calls.{at_cursor, behind, behind_kept, keep, IsOne, AreAllPages}
 use Rattle.script_runner.specs.declared.client.Cursors.{Cursors}
-use Rattle.script_runner.specs.Commands.{AreAll, AreAsked, IsAskedAndKept, IsFirstAsked, IsNextAsked, IsMoreAsked, IsCommandAsked, on_each}
+use Rattle.script_runner.specs.declared.commands.Ask.TheVariants as asks
+use Rattle.script_runner.specs.Commands.{AreAll, AreAsked, IsAskedAndKept, IsFirstAsked, IsNextAsked, IsMoreAsked, IsAskDone, on_each}
 use Rattle.script_runner.specs.Keeping.{with_cursor, next_kept}
 
 pub if_ok : {T E : Type 0} (result : Result T E) (P Q : T → Type 0) → ((x : T) → P x → Q x) → IfOk result P → IfOk result Q
@@ -79,9 +79,6 @@ lines_asked page path from to old new replies = pages_asked (Lines page) (behind
 
 -- ---- kept cursors
 
-some_of : {A : Type 0} (a b : A) → Some a ≡ Some b → a ≡ b
-some_of a b e = cc
-
 -- the cursor of a reply is kept for the command's side
 kept_here : (page : ℕ) (cursors : Cursors) (reply : Reply) (side : Side) (kind k : PagesKind) → next_kept page (with_cursor kind reply cursors) k ≡ keep (on_each page cursors) side kind (behind_kept page kind reply) side k
 kept_here page cursors reply Source kinds.Listing kinds.Listing = refl
@@ -106,54 +103,70 @@ none_here page cursors Target kinds.Report kinds.Report none = none
 
 -- ---- commands
 
-module _ (page : ℕ) (side : Side) (old new : Known) (kept now : Cursors) (replies : List Answered) where
-  keeps_one : (kind : PagesKind) (reply : Reply) → now ≡ with_cursor kind reply kept → (s : Side) → Some side ≡ Some s → next_kept page now ≡ keep (on_each page kept) side kind (behind_kept page kind reply) s
-  keeps_one kind reply keeps s is =
-      subst (λ (at : Side). next_kept page now ≡ keep (on_each page kept) side kind (behind_kept page kind reply) at) (some_of side s is)
-      (ap (next_kept page) keeps ∙ fun_ext (kept_here page kept reply side kind))
+module _ (page : ℕ) (old new : Known) (kept now : Cursors) (replies : List Answered) where
+  -- one call
+  pub call_asked : (call : Call) → now ≡ kept → AreAsked old new (IsOne (Some call)) replies → IsAskDone page (asks.Call call) old new kept now replies
+  call_asked call keeps asked = record {
+    said = asked.said;
+    calls = λ side. asked.calls;
+    made = asked.made;
+    replies_are = asked.replies_are;
+    keeps = λ side. ap (next_kept page) keeps;
+  }
+
+  -- all pages
+  pub all_asked : (what : Pages) → now ≡ kept → AreAsked old new (AreAll page what) replies → IsAskDone page (asks.All what) old new kept now replies
+  all_asked what keeps asked = record {
+    said = asked.said;
+    calls = λ side. asked.calls;
+    made = asked.made;
+    replies_are = asked.replies_are;
+    keeps = λ side. ap (next_kept page) keeps;
+  }
+
+  keeps_one : (kind : PagesKind) (reply : Reply) → now ≡ with_cursor kind reply kept → (side : Side) → next_kept page now ≡ keep (on_each page kept) side kind (behind_kept page kind reply) side
+  keeps_one kind reply keeps side = ap (next_kept page) keeps ∙ fun_ext (kept_here page kept reply side kind)
 
   -- the first page
-  pub first_asked : (what : Pages) → IsFirstAsked page what old new kept now replies → IsCommandAsked page (commands.First side what) old new kept now replies
+  pub first_asked : (what : Pages) → IsFirstAsked page what old new kept now replies → IsAskDone page (asks.First what) old new kept now replies
   first_asked (pages.File path) asked = record {
     said = asked.0.said;
-    calls = asked.0.calls;
+    calls = λ side. asked.0.calls;
     made = asked.0.made;
     replies_are = asked.0.replies_are;
-    keeps = λ s is. ap (next_kept page) asked.1;
+    keeps = λ side. ap (next_kept page) asked.1;
   }
   first_asked (pages.Listing path) asked = record {
     said = asked.said ∷ [];
-    calls = ap Some (sym asked.call_is);
+    calls = λ side. ap Some (sym asked.call_is);
     made = asked.made;
     replies_are = asked.replies_are;
     keeps = keeps_one kinds.Listing asked.said.told.reply asked.keeps;
   }
   first_asked (pages.Report path from to) asked = record {
     said = asked.said ∷ [];
-    calls = ap Some (sym asked.call_is);
+    calls = λ side. ap Some (sym asked.call_is);
     made = asked.made;
     replies_are = asked.replies_are;
     keeps = keeps_one kinds.Report asked.said.told.reply asked.keeps;
   }
 
-  next_asked : (kind : PagesKind) (next : Option Call) → next_kept page kept kind ≡ next → IsNextAsked kind next old new kept now replies → IsCommandAsked page (commands.More side kind) old new kept now replies
+  next_asked : (kind : PagesKind) (next : Option Call) → next_kept page kept kind ≡ next → IsNextAsked kind next old new kept now replies → IsAskDone page (asks.More kind) old new kept now replies
   next_asked kind None is asked = record {
     said = [];
-    calls = is;
+    calls = λ side. is;
     made = asked.0;
     replies_are = asked.2;
-    keeps = λ s same.
-        subst (λ (at : Side). next_kept page now ≡ keep (on_each page kept) side kind None at) (some_of side s same)
-        (ap (next_kept page) asked.1 ∙ fun_ext (λ k. none_here page kept side kind k is));
+    keeps = λ side. ap (next_kept page) asked.1 ∙ fun_ext (λ k. none_here page kept side kind k is);
   }
   next_asked kind (Some call) is asked = record {
     said = asked.said ∷ [];
-    calls = is ∙ ap Some (sym asked.call_is);
+    calls = λ side. is ∙ ap Some (sym asked.call_is);
     made = asked.made;
     replies_are = asked.replies_are;
     keeps = keeps_one kind asked.said.told.reply asked.keeps;
   }
 
   -- the page at a kept cursor
-  pub more_asked : (kind : PagesKind) → IsMoreAsked page kind old new kept now replies → IsCommandAsked page (commands.More side kind) old new kept now replies
+  pub more_asked : (kind : PagesKind) → IsMoreAsked page kind old new kept now replies → IsAskDone page (asks.More kind) old new kept now replies
   more_asked kind asked = next_asked kind (next_kept page kept kind) refl asked

@@ -27,7 +27,7 @@ client_ran st dt page number caller old_source old_target new_source new_target 
       lines = ran.lines;
       of_section = ran.of_section;
       calls = subst (λ (k : Kept). AreCalls page k ran.runs) none ran.calls;
-      made = subst (λ n. AreLinesRun st dt n (unnumbered old_source old_target) ran.runs now) same (subst (λ (w : World). AreLinesRun st dt caller w ran.runs now) begun ran.made);
+      made = subst (λ n. AreLinesRun st dt page n (unnumbered old_source old_target) ran.runs now) same (subst (λ (w : World). AreLinesRun st dt page caller w ran.runs now) begun ran.made);
       source_is = source;
       target_is = target;
       log_is = logged ∙ ap (λ (is : List LogItem). record { section = sections.Client number; items = is }) ran.items_are;
@@ -52,19 +52,19 @@ logs_push client (g ∷ groups) runs =
     (logs_push (client + 1) groups runs
     ∙ ap (λ n. client_logs (client + 1) groups ++ record { section = sections.Client n; items = items_of runs } ∷ []) {x = client + 1 + length groups} {y = client + suc (length groups)} (omega arith))
 
-clients_push : (st dt : Bool) (c : ℕ) (old now : World) (groups : List (List LineRun)) (runs : List LineRun) (next new : World) →
-    AreClientsRun st dt c old groups now → AreLinesRun st dt (c + length groups) (uncounted now) runs next → next.source ≡ new.source → next.target ≡ new.target →
-    AreClientsRun st dt c old (groups ++ runs ∷ []) new
-clients_push st dt c old now [] runs next new made one source target = (
+clients_push : (st dt : Bool) (page c : ℕ) (old now : World) (groups : List (List LineRun)) (runs : List LineRun) (next new : World) →
+    AreClientsRun st dt page c old groups now → AreLinesRun st dt page (c + length groups) (uncounted now) runs next → next.source ≡ new.source → next.target ≡ new.target →
+    AreClientsRun st dt page c old (groups ++ runs ∷ []) new
+clients_push st dt page c old now [] runs next new made one source target = (
   next,
-  subst (λ n. AreLinesRun st dt n (uncounted old) runs next) {x = c + 0} {y = c} (omega arith)
-      (subst (λ (w : World). AreLinesRun st dt (c + 0) w runs next) (ap (λ (s : List Entry). unnumbered s now.target) (sym made.0) ∙ ap (λ (t : List Entry). unnumbered old.source t) (sym made.1)) one),
+  subst (λ n. AreLinesRun st dt page n (uncounted old) runs next) {x = c + 0} {y = c} (omega arith)
+      (subst (λ (w : World). AreLinesRun st dt page (c + 0) w runs next) (ap (λ (s : List Entry). unnumbered s now.target) (sym made.0) ∙ ap (λ (t : List Entry). unnumbered old.source t) (sym made.1)) one),
   (source, target),
 )
-clients_push st dt c old now (g ∷ groups) runs next new made one source target = (
+clients_push st dt page c old now (g ∷ groups) runs next new made one source target = (
   made.0,
   made.1,
-  clients_push st dt (c + 1) made.0 now groups runs next new made.2 (subst (λ n. AreLinesRun st dt n (uncounted now) runs next) {x = c + suc (length groups)} {y = c + 1 + length groups} (omega arith) one) source target,
+  clients_push st dt page (c + 1) made.0 now groups runs next new made.2 (subst (λ n. AreLinesRun st dt page n (uncounted now) runs next) {x = c + suc (length groups)} {y = c + 1 + length groups} (omega arith) one) source target,
 )
 
 pub clients_begin : (st dt : Bool) (page : ℕ) (source target : List Entry) (lines : List ScriptLine) (logs : List ClientLog) → AreClientsTo st dt page 0 source target source target lines lines logs logs
@@ -78,10 +78,10 @@ pub clients_grow : (told_s told_t st dt : Bool) (page count number : ℕ) (old_s
     AreClientsTo st dt page (count + 1) old_source old_target new_source new_target before after logs_before new_logs
 clients_grow told_s told_t st dt page count number old_source old_target source target new_source new_target before rest after logs_before logs new_logs log same_s same_t numbered pushed kept one =
     let own : number ≡ 1 + length kept.clients = omega (arith, numbered, kept.number) in
-    let made : AreLinesRun st dt (1 + length kept.clients) (unnumbered source target) one.runs one.now =
-    subst (λ n. AreLinesRun st dt n (unnumbered source target) one.runs one.now) own
-    (subst (λ b. AreLinesRun b dt number (unnumbered source target) one.runs one.now) same_s
-    (subst (λ b. AreLinesRun told_s b number (unnumbered source target) one.runs one.now) same_t one.made)) in
+    let made : AreLinesRun st dt page (1 + length kept.clients) (unnumbered source target) one.runs one.now =
+    subst (λ n. AreLinesRun st dt page n (unnumbered source target) one.runs one.now) own
+    (subst (λ b. AreLinesRun b dt page number (unnumbered source target) one.runs one.now) same_s
+    (subst (λ b. AreLinesRun told_s b page number (unnumbered source target) one.runs one.now) same_t one.made)) in
     record {
       clients = kept.clients ++ one.runs ∷ [];
       number = omega (arith, length-append kept.clients (one.runs ∷ []), kept.number);
@@ -93,7 +93,7 @@ clients_grow told_s told_t st dt page count number old_source old_target source 
           ∙ ap (map (λ r. r.line)) (ap (λ (rs : List LineRun). flat_map (λ client. client) kept.clients ++ rs) (sym (append-nil one.runs)) ∙ sym (flat_map-append (λ (client : List LineRun). client) kept.clients (one.runs ∷ []))));
       of_sections = in_push 1 kept.clients one.runs kept.of_sections (ap (λ n. are_in (sections.Client n) one.runs) (sym own) ∙ one.of_section);
       calls = all_push page kept.clients one.runs kept.calls one.calls;
-      made = clients_push st dt 1 (unnumbered old_source old_target) (unnumbered source target) kept.clients one.runs one.now (unnumbered new_source new_target) kept.made made one.source_is one.target_is;
+      made = clients_push st dt page 1 (unnumbered old_source old_target) (unnumbered source target) kept.clients one.runs one.now (unnumbered new_source new_target) kept.made made one.source_is one.target_is;
       logs_are =
           pushed ∙ ap (λ (ls : List ClientLog). ls ++ log ∷ []) kept.logs_are
           ∙ append_assoc logs_before (client_logs 1 kept.clients) (log ∷ [])

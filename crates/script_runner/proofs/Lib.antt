@@ -1,4 +1,6 @@
+pub mod AroundSyncs
 pub mod Asking
+pub mod Between
 pub mod Both
 pub mod Clients
 pub mod Lines
@@ -6,5 +8,7 @@ pub mod Linked
 pub mod Made
 pub mod NodeRuns
 pub mod Order
+pub mod Stepped
+pub mod SyncSteps
 pub mod TurnedRuns
 pub mod WholeRuns

@@ -1,117 +1,66 @@
 -- A run in turn keeps what links promise.
-use Rattle.std.proofs.Common.{◌≡◌, ℕ, suc, ◌+◌, ◌≤◌, nat_lt, nat_le, Bool, true, false, cond, ◌&&◌, ◌==◌, Option, Some, None, List, [], ◌∷◌, ◌++◌, map, length, refl, ap, sym, ◌∙◌, subst, length-append, append_assoc, append-nil, arith}
-use Rattle.std.specs.Option.{option_to_list}
+use Rattle.std.proofs.Common.{◌≡◌, ℕ, suc, ◌+◌, ◌≤◌, nat_lt, nat_le, Bool, true, false, cond, ◌&&◌, ◌==◌, List, [], ◌∷◌, ◌++◌, map, length, refl, ap, sym, ◌∙◌, subst, append_assoc, append-nil, arith}
 use Rattle.std.specs.List.{list_all, filter, flat_map}
 use Rattle.std.proofs.lemmas.Bool.Decides.{nat_tests}
 use Rattle.std.proofs.lemmas.List.Elements.{filter-append}
-use Rattle.hs_types.specs.declared.ids.Side.{Side}
 use Rattle.hs_types.specs.declared.ids.Side.TheVariants.{Source, Target}
 use Rattle.hs_types.specs.declared.journal.Entry.{Entry}
 use Rattle.hs_types.specs.Limits.{journal_limit}
-use Rattle.hs_plain.specs.Legal.{Said, entry_of, leaves_entry, reach_of, places_of}
+use Rattle.hs_plain.specs.Legal.{places_of}
 use Rattle.hs_plain.specs.Replay.{is_proper}
-use Rattle.run_output.specs.Calls.{side_of}
-use Rattle.run_output.specs.Steps.{Sections, LineRun, Step, printed, made, steps_of, steps_on, goes_to, steps_to, place_of, known_by, reached, in_turn, in_order}
-use Rattle.run_output.specs.Run.{caller, IsSide, IsInTurn}
-use Rattle.script_runner.specs.Links.{is_of, own, AreLinked, last_number, AreClientsMet, AreMet}
-use Rattle.script_runner.specs.InTurn.{IsNext, AreNext, World, IsSideRun, AreLinesRun, uncounted, AreClientsRun, fresh, IsSerial}
+use Rattle.run_output.specs.Steps.{Sections, LineRun, Step, printed, made, failed, counted, steps_of, steps_on, steps_to, reached, in_turn, in_order}
+use Rattle.run_output.specs.Run.{IsSide, IsInTurn}
+use Rattle.script_runner.specs.Links.{is_of, AreLinked, AreClientsMet, AreMet}
+use Rattle.script_runner.specs.InTurn.{World, AreStepsNext, AreLinesRun, uncounted, AreClientsRun, fresh, IsSerial}
 use Rattle.script_runner.proofs.Both.{both_first, both_second}
-use Rattle.script_runner.proofs.Linked.{own-long, linked_wait, places-append, places_none, met_side}
+use Rattle.script_runner.proofs.Linked.{linked_wait, places-append, places_none, met_side}
+use Rattle.script_runner.proofs.Stepped.{by_caller, all_both, stepped_append, stepped_rest, stepped_linked, stepped_last, stepped_turn, in_turn-append, reached-append}
 
--- ---- calls on one side, each at the end of the journal
+-- ---- lines on one side
 
-abbrev pub Turned : Bool → ℕ → List Entry → ℕ → List Step → List Entry → ℕ → Type 0
-Turned tells c old number [] new last = (old ≡ new) × (number ≡ last)
-Turned tells c old number (printed said ∷ more) new last = (seen : List Entry) × IsNext tells c old number seen said × Turned tells c seen said.seq more new last
-Turned tells c old number (made m ∷ more) new last = ⊥
+-- by induction over the lines
+pub source_turned : (st dt : Bool) (page c : ℕ) (old : World) (runs : List LineRun) (new : World) → AreLinesRun st dt page c old runs new → AreStepsNext st c old.source old.source_calls (steps_on Source runs) new.source new.source_calls
+source_turned st dt page c old [] new ran = (ap (λ (w : World). w.source) ran, ap (λ (w : World). w.source_calls) ran)
+source_turned st dt page c old (run ∷ runs) new ran =
+    stepped_append st c old.source old.source_calls (steps_of Source run) (steps_on Source runs) ran.0.source ran.0.source_calls new.source new.source_calls
+    ran.1.source (source_turned st dt page c ran.0 runs new ran.2)
 
-turned_said : (tells : Bool) (c : ℕ) (old : List Entry) (number : ℕ) (said : List Said) (new : List Entry) (last : ℕ) → AreNext tells c old number said new last → Turned tells c old number (map printed said) new last
-turned_said tells c old number [] new last next = next
-turned_said tells c old number (s ∷ said) new last next = (next.0, next.1, turned_said tells c next.0 s.seq said new last next.2)
-
-turned_append : (tells : Bool) (c : ℕ) (old : List Entry) (number : ℕ) (steps more : List Step) (now : List Entry) (here : ℕ) (new : List Entry) (last : ℕ) → Turned tells c old number steps now here → Turned tells c now here more new last → Turned tells c old number (steps ++ more) new last
-turned_append tells c old number [] more now here new last turned next =
-    subst (λ (j : List Entry). Turned tells c j number more new last) (sym turned.0) (subst (λ n. Turned tells c now n more new last) (sym turned.1) next)
-turned_append tells c old number (made m ∷ steps) more now here new last turned next = absurd turned
-turned_append tells c old number (printed s ∷ steps) more now here new last turned next = (turned.0, turned.1, turned_append tells c turned.0 s.seq steps more now here new last turned.2 next)
-
--- by induction over the commands
-source_step : (st dt : Bool) (c : ℕ) (old : World) (at : Option Side) (said : List Said) (now : World) → IsSideRun st dt c old at said now → Turned st c old.source old.source_calls (cond (goes_to Source at) (map printed said) []) now.source now.source_calls
-source_step st dt c old None said now run = absurd run
-source_step st dt c old (Some Source) said now run = turned_said st c old.source old.source_calls said now.source now.source_calls run.0
-source_step st dt c old (Some Target) said now run = (run.1, run.2)
-
-target_step : (st dt : Bool) (c : ℕ) (old : World) (at : Option Side) (said : List Said) (now : World) → IsSideRun st dt c old at said now → Turned dt c old.target old.target_calls (cond (goes_to Target at) (map printed said) []) now.target now.target_calls
-target_step st dt c old None said now run = absurd run
-target_step st dt c old (Some Source) said now run = (run.1, run.2)
-target_step st dt c old (Some Target) said now run = turned_said dt c old.target old.target_calls said now.target now.target_calls run.0
-
-source_turned : (st dt : Bool) (c : ℕ) (old : World) (runs : List LineRun) (new : World) → AreLinesRun st dt c old runs new → Turned st c old.source old.source_calls (steps_on Source runs) new.source new.source_calls
-source_turned st dt c old [] new ran = (ap (λ (w : World). w.source) ran, ap (λ (w : World). w.source_calls) ran)
-source_turned st dt c old (run ∷ runs) new ran =
-    turned_append st c old.source old.source_calls (steps_of Source run) (steps_on Source runs) ran.0.source ran.0.source_calls new.source new.source_calls
-    (source_step st dt c old (side_of run.line.command) run.said ran.0 ran.1) (source_turned st dt c ran.0 runs new ran.2)
-
-target_turned : (st dt : Bool) (c : ℕ) (old : World) (runs : List LineRun) (new : World) → AreLinesRun st dt c old runs new → Turned dt c old.target old.target_calls (steps_on Target runs) new.target new.target_calls
-target_turned st dt c old [] new ran = (ap (λ (w : World). w.target) ran, ap (λ (w : World). w.target_calls) ran)
-target_turned st dt c old (run ∷ runs) new ran =
-    turned_append dt c old.target old.target_calls (steps_of Target run) (steps_on Target runs) ran.0.target ran.0.target_calls new.target new.target_calls
-    (target_step st dt c old (side_of run.line.command) run.said ran.0 ran.1) (target_turned st dt c ran.0 runs new ran.2)
+pub target_turned : (st dt : Bool) (page c : ℕ) (old : World) (runs : List LineRun) (new : World) → AreLinesRun st dt page c old runs new → AreStepsNext dt c old.target old.target_calls (steps_on Target runs) new.target new.target_calls
+target_turned st dt page c old [] new ran = (ap (λ (w : World). w.target) ran, ap (λ (w : World). w.target_calls) ran)
+target_turned st dt page c old (run ∷ runs) new ran =
+    stepped_append dt c old.target old.target_calls (steps_of Target run) (steps_on Target runs) ran.0.target ran.0.target_calls new.target new.target_calls
+    ran.1.target (target_turned st dt page c ran.0 runs new ran.2)
 
 -- the clients, one after the other
-abbrev TurnedClients : Bool → ℕ → List Entry → List (List Step) → List Entry → Type 0
+abbrev pub TurnedClients : Bool → ℕ → List Entry → List (List Step) → List Entry → Type 0
 TurnedClients tells c old [] new = old ≡ new
-TurnedClients tells c old (client ∷ clients) new = (now : List Entry) × (last : ℕ) × Turned tells c old 0 client now last × TurnedClients tells (c + 1) now clients new
+TurnedClients tells c old (client ∷ clients) new = (now : List Entry) × (last : ℕ) × AreStepsNext tells c old 0 client now last × TurnedClients tells (c + 1) now clients new
 
-source_clients : (st dt : Bool) (c : ℕ) (old : World) (clients : List (List LineRun)) (new : World) → AreClientsRun st dt c old clients new → TurnedClients st c old.source (map (steps_on Source) clients) new.source
-source_clients st dt c old [] new run = run.0
-source_clients st dt c old (client ∷ clients) new run = (run.0.source, run.0.source_calls, source_turned st dt c (uncounted old) client run.0 run.1, source_clients st dt (c + 1) run.0 clients new run.2)
+pub source_clients : (st dt : Bool) (page c : ℕ) (old : World) (clients : List (List LineRun)) (new : World) → AreClientsRun st dt page c old clients new → TurnedClients st c old.source (map (steps_on Source) clients) new.source
+source_clients st dt page c old [] new run = run.0
+source_clients st dt page c old (client ∷ clients) new run = (run.0.source, run.0.source_calls, source_turned st dt page c (uncounted old) client run.0 run.1, source_clients st dt page (c + 1) run.0 clients new run.2)
 
-target_clients : (st dt : Bool) (c : ℕ) (old : World) (clients : List (List LineRun)) (new : World) → AreClientsRun st dt c old clients new → TurnedClients dt c old.target (map (steps_on Target) clients) new.target
-target_clients st dt c old [] new run = run.1
-target_clients st dt c old (client ∷ clients) new run = (run.0.target, run.0.target_calls, target_turned st dt c (uncounted old) client run.0 run.1, target_clients st dt (c + 1) run.0 clients new run.2)
+pub target_clients : (st dt : Bool) (page c : ℕ) (old : World) (clients : List (List LineRun)) (new : World) → AreClientsRun st dt page c old clients new → TurnedClients dt c old.target (map (steps_on Target) clients) new.target
+target_clients st dt page c old [] new run = run.1
+target_clients st dt page c old (client ∷ clients) new run = (run.0.target, run.0.target_calls, target_turned st dt page c (uncounted old) client run.0 run.1, target_clients st dt page (c + 1) run.0 clients new run.2)
 
 -- ---- entries
 
-abbrev by_caller : (ℕ → Bool) → Entry → Bool
-by_caller p entry = p entry.caller.0
-
-all_by : (p q : ℕ → Bool) (xs : List Entry) → ((n : ℕ) → p n ≡ true → q n ≡ true) → list_all (by_caller p) xs ≡ true → list_all (by_caller q) xs ≡ true
+pub all_by : (p q : ℕ → Bool) (xs : List Entry) → ((n : ℕ) → p n ≡ true → q n ≡ true) → list_all (by_caller p) xs ≡ true → list_all (by_caller q) xs ≡ true
 all_by p q [] weaker all = refl
 all_by p q (x ∷ xs) weaker all = ap (λ b. b && list_all (by_caller q) xs) (weaker x.caller.0 (both_first _ _ all)) ∙ all_by p q xs weaker (both_second (p x.caller.0) _ all)
 
-all_both : (p : ℕ → Bool) (xs ys : List Entry) → list_all (by_caller p) xs ≡ true → list_all (by_caller p) ys ≡ true → list_all (by_caller p) (xs ++ ys) ≡ true
-all_both p [] ys here more = more
-all_both p (x ∷ xs) ys here more = ap (λ b. b && list_all (by_caller p) (xs ++ ys)) (both_first _ _ here) ∙ all_both p xs ys (both_second (p x.caller.0) _ here) more
-
-none_of : (c : ℕ) (p : ℕ → Bool) (xs : List Entry) → ((n : ℕ) → p n ≡ true → (n == c) ≡ false) → list_all (by_caller p) xs ≡ true → filter (is_of c) xs ≡ []
+pub none_of : (c : ℕ) (p : ℕ → Bool) (xs : List Entry) → ((n : ℕ) → p n ≡ true → (n == c) ≡ false) → list_all (by_caller p) xs ≡ true → filter (is_of c) xs ≡ []
 none_of c p [] other all = refl
 none_of c p (x ∷ xs) other all = ap (λ b. cond b (x ∷ filter (is_of c) xs) (filter (is_of c) xs)) (other x.caller.0 (both_first _ _ all)) ∙ none_of c p xs other (both_second (p x.caller.0) _ all)
 
-same_number : (n : ℕ) → (n == n) ≡ true
-same_number n = grind (arith, nat_tests)
-
-own_all : (c : ℕ) (said : Said) → list_all (by_caller (λ n. n == c)) (own c said) ≡ true
-own_all c said = elim (leaves_entry said.call said.told.reply) as (λ b. list_all (by_caller (λ n. n == c)) (option_to_list (cond b (Some (entry_of (caller c) said.seq said.call said.told.reply)) None)) ≡ true) [
-  | true ↦ ap (λ b. b && true) (same_number c)
-  | false ↦ refl
-]
-
--- what comes behind is the caller's
-turned_rest : (tells : Bool) (c : ℕ) (old : List Entry) (number : ℕ) (steps : List Step) (new : List Entry) (last : ℕ) → Turned tells c old number steps new last → (rest : List Entry) × (new ≡ old ++ rest) × (list_all (by_caller (λ n. n == c)) rest ≡ true)
-turned_rest tells c old number [] new last turned = ([], sym turned.0 ∙ sym (append-nil old), refl)
-turned_rest tells c old number (made m ∷ steps) new last turned = absurd turned
-turned_rest tells c old number (printed s ∷ steps) new last turned =
-    let more : (rest : List Entry) × (new ≡ turned.0 ++ rest) × (list_all (by_caller (λ n. n == c)) rest ≡ true) = turned_rest tells c turned.0 s.seq steps new last turned.2 in
-    (own c s ++ more.0, more.1 ∙ ap (λ (xs : List Entry). xs ++ more.0) turned.1.grows ∙ append_assoc old (own c s) more.0, all_both (λ n. n == c) (own c s) more.0 (own_all c s) more.2)
-
-abbrev within : ℕ → ℕ → ℕ → Bool
+abbrev pub within : ℕ → ℕ → ℕ → Bool
 within low high n = nat_le low n && nat_lt n high
 
-clients_rest : (tells : Bool) (c : ℕ) (old : List Entry) (clients : List (List Step)) (new : List Entry) → TurnedClients tells c old clients new → (rest : List Entry) × (new ≡ old ++ rest) × (list_all (by_caller (within c (c + length clients))) rest ≡ true)
+pub clients_rest : (tells : Bool) (c : ℕ) (old : List Entry) (clients : List (List Step)) (new : List Entry) → TurnedClients tells c old clients new → (rest : List Entry) × (new ≡ old ++ rest) × (list_all (by_caller (within c (c + length clients))) rest ≡ true)
 clients_rest tells c old [] new turned = ([], sym turned ∙ sym (append-nil old), refl)
 clients_rest tells c old (client ∷ clients) new turned =
-    let mine : (rest : List Entry) × (turned.0 ≡ old ++ rest) × (list_all (by_caller (λ n. n == c)) rest ≡ true) = turned_rest tells c old 0 client turned.0 turned.1 turned.2 in
+    let mine : (rest : List Entry) × (turned.0 ≡ old ++ rest) × (list_all (by_caller (λ n. n == c)) rest ≡ true) = stepped_rest tells c old 0 client turned.0 turned.1 turned.2 in
     let more : (rest : List Entry) × (new ≡ turned.0 ++ rest) × (list_all (by_caller (within (c + 1) (c + 1 + length clients))) rest ≡ true) = clients_rest tells (c + 1) turned.0 clients new turned.3 in (
       mine.0 ++ more.0,
       more.1 ∙ ap (λ (xs : List Entry). xs ++ more.0) mine.1 ∙ append_assoc old mine.0 more.0,
@@ -128,45 +77,26 @@ clients_rest tells c old (client ∷ clients) new turned =
 
 -- ---- links
 
-turned_linked : (tells : Bool) (c : ℕ) (old : List Entry) (number : ℕ) (steps : List Step) (new : List Entry) (last : ℕ) → Turned tells c old number steps new last → AreLinked tells c old number steps new
-turned_linked tells c old number [] new last turned = ([], sym turned.0 ∙ sym (append-nil old), refl)
-turned_linked tells c old number (made m ∷ steps) new last turned = absurd turned
-turned_linked tells c old number (printed s ∷ steps) new last turned = (
-  turned.0,
-  record {
-    others = [];
-    foreign = refl;
-    grows = turned.1.grows ∙ ap (λ (xs : List Entry). xs ++ own c s) (sym (append-nil old));
-    place = turned.1.place ∙ ap length (sym (append-nil old));
-    legal = turned.1.legal;
-    counted = turned.1.counted;
-  },
-  turned_linked tells c turned.0 s.seq steps new last turned.2,
-)
-
-turned_last : (tells : Bool) (c : ℕ) (old : List Entry) (number : ℕ) (steps : List Step) (new : List Entry) (last : ℕ) → Turned tells c old number steps new last → last_number number steps ≡ last
-turned_last tells c old number [] new last turned = turned.1
-turned_last tells c old number (made m ∷ steps) new last turned = absurd turned
-turned_last tells c old number (printed s ∷ steps) new last turned = turned_last tells c turned.0 s.seq steps new last turned.2
-
 pub linked_end : (tells : Bool) (c : ℕ) (old : List Entry) (number : ℕ) (steps : List Step) (now rest : List Entry) → filter (is_of c) rest ≡ [] → AreLinked tells c old number steps now → AreLinked tells c old number steps (now ++ rest)
 linked_end tells c old number [] now rest foreign linked =
     (linked.0 ++ rest, ap (λ (xs : List Entry). xs ++ rest) linked.1 ∙ append_assoc old linked.0 rest, filter-append (is_of c) linked.0 rest ∙ ap (λ (xs : List Entry). xs ++ filter (is_of c) rest) linked.2 ∙ foreign)
 linked_end tells c old number (made m ∷ steps) now rest foreign linked = (linked.0, linked.1, linked_end tells c linked.0 m.seq steps now rest foreign linked.2)
+linked_end tells c old number (failed position ∷ steps) now rest foreign linked = (linked.0, linked.1, linked_end tells c linked.0 number steps now rest foreign linked.2)
+linked_end tells c old number (counted n ∷ steps) now rest foreign linked = (linked.0, linked_end tells c old n steps now rest foreign linked.1)
 linked_end tells c old number (printed s ∷ steps) now rest foreign linked = (linked.0, linked.1, linked_end tells c linked.0 s.seq steps now rest foreign linked.2)
 
 clients_met : (tells : Bool) (begun before old ended rest : List Entry) (c : ℕ) (clients : List (List Step)) → 1 ≤ c → old ≡ begun ++ before → list_all (by_caller (λ n. n == 0)) begun ≡ true → list_all (by_caller (λ n. nat_lt n c)) before ≡ true → list_all (by_caller (λ n. n == 0)) rest ≡ true →
     TurnedClients tells c old clients ended → AreClientsMet tells begun ended (ended ++ rest) c clients
 clients_met tells begun before old ended rest c [] one front first lower last turned = tt
 clients_met tells begun before old ended rest c (client ∷ clients) one front first lower last turned =
-    let mine : (own : List Entry) × (turned.0 ≡ old ++ own) × (list_all (by_caller (λ n. n == c)) own ≡ true) = turned_rest tells c old 0 client turned.0 turned.1 turned.2 in
+    let mine : (own : List Entry) × (turned.0 ≡ old ++ own) × (list_all (by_caller (λ n. n == c)) own ≡ true) = stepped_rest tells c old 0 client turned.0 turned.1 turned.2 in
     let more : (others : List Entry) × (ended ≡ turned.0 ++ others) × (list_all (by_caller (within (c + 1) (c + 1 + length clients))) others ≡ true) = clients_rest tells (c + 1) turned.0 clients ended turned.3 in (
       record {
         calls =
             subst (λ (j : List Entry). AreLinked tells c begun 0 client j) (sym more.1)
             (linked_end tells c begun 0 client turned.0 more.0 (none_of c (within (c + 1) (c + 1 + length clients)) more.0 (λ n e. higher c n (length clients) e) more.2)
             (linked_wait tells c begun 0 client turned.0 before (none_of c (λ n. nat_lt n c) before (λ n e. less c n e) lower)
-            (subst (λ (j : List Entry). AreLinked tells c j 0 client turned.0) front (turned_linked tells c old 0 client turned.0 turned.1 turned.2))));
+            (subst (λ (j : List Entry). AreLinked tells c j 0 client turned.0) front (stepped_linked tells c old 0 client turned.0 turned.1 turned.2))));
         before = none_of c (λ n. n == 0) begun (λ n e. not_zero c n one e) first;
         after = places-append c 0 ended rest ∙ ap (λ (ks : List ℕ). places_of c 0 ended ++ ks) (places_none c (0 + length ended) rest (none_of c (λ n. n == 0) rest (λ n e. not_zero c n one e) last)) ∙ append-nil (places_of c 0 ended);
       },
@@ -194,32 +124,32 @@ clients_met tells begun before old ended rest c (client ∷ clients) one front f
 -- ---- one side
 
 -- a side of a run in turn: setup, the clients one after the other, finish
-record TurnedSide (tells : Bool) (steps : Sections Step) (journal : List Entry) : Type 0 where
-  begun : List Entry
-  ended : List Entry
-  number : ℕ
-  last : ℕ
-  setup : Turned tells 0 [] 0 steps.setup begun number
-  clients : TurnedClients tells 1 begun steps.clients ended
-  finish : Turned tells 0 ended number steps.finish journal last
+pub record TurnedSide (tells : Bool) (steps : Sections Step) (journal : List Entry) : Type 0 where
+  pub begun : List Entry
+  pub ended : List Entry
+  pub number : ℕ
+  pub last : ℕ
+  pub setup : AreStepsNext tells 0 [] 0 steps.setup begun number
+  pub clients : TurnedClients tells 1 begun steps.clients ended
+  pub finish : AreStepsNext tells 0 ended number steps.finish journal last
 
 turned_met : (tells : Bool) (steps : Sections Step) (journal : List Entry) → is_proper journal ≡ true → length journal ≤ journal_limit → TurnedSide tells steps journal → AreMet tells journal steps
 turned_met tells steps journal proper few turned =
-    let first : (own : List Entry) × (turned.begun ≡ own) × (list_all (by_caller (λ n. n == 0)) own ≡ true) = turned_rest tells 0 [] 0 steps.setup turned.begun turned.number turned.setup in
+    let first : (own : List Entry) × (turned.begun ≡ own) × (list_all (by_caller (λ n. n == 0)) own ≡ true) = stepped_rest tells 0 [] 0 steps.setup turned.begun turned.number turned.setup in
     let middle : (others : List Entry) × (turned.ended ≡ turned.begun ++ others) × (list_all (by_caller (within 1 (1 + length steps.clients))) others ≡ true) = clients_rest tells 1 turned.begun steps.clients turned.ended turned.clients in
-    let last : (own : List Entry) × (journal ≡ turned.ended ++ own) × (list_all (by_caller (λ n. n == 0)) own ≡ true) = turned_rest tells 0 turned.ended turned.number steps.finish journal turned.last turned.finish in
+    let last : (own : List Entry) × (journal ≡ turned.ended ++ own) × (list_all (by_caller (λ n. n == 0)) own ≡ true) = stepped_rest tells 0 turned.ended turned.number steps.finish journal turned.last turned.finish in
     let zeros : list_all (by_caller (λ n. n == 0)) turned.begun ≡ true = ap (list_all (by_caller (λ n. n == 0))) first.1 ∙ first.2 in
     record {
       begun = turned.begun;
       ended = turned.ended;
       proper = proper;
       few = few;
-      setup = turned_linked tells 0 [] 0 steps.setup turned.begun turned.number turned.setup;
+      setup = stepped_linked tells 0 [] 0 steps.setup turned.begun turned.number turned.setup;
       clients =
           subst (λ (j : List Entry). AreClientsMet tells turned.begun turned.ended j 1 steps.clients) (sym last.1)
           (clients_met tells turned.begun [] turned.begun turned.ended last.0 1 steps.clients (omega arith) (sym (append-nil turned.begun)) zeros refl last.2 turned.clients);
       meeting = (middle.0, middle.1, none_of 0 (within 1 (1 + length steps.clients)) middle.0 (λ n e. above n (length steps.clients) e) middle.2);
-      finish = subst (λ n. AreLinked tells 0 turned.ended n steps.finish journal) (sym (turned_last tells 0 [] 0 steps.setup turned.begun turned.number turned.setup)) (turned_linked tells 0 turned.ended turned.number steps.finish journal turned.last turned.finish);
+      finish = subst (λ n. AreLinked tells 0 turned.ended n steps.finish journal) (sym (stepped_last tells 0 [] 0 steps.setup turned.begun turned.number turned.setup)) (stepped_linked tells 0 turned.ended turned.number steps.finish journal turned.last turned.finish);
       alone =
           ap (list_all (by_caller (λ n. nat_lt n (length steps.clients + 1)))) (last.1 ∙ ap (λ (xs : List Entry). xs ++ last.0) middle.1)
           ∙ all_both (λ n. nat_lt n (length steps.clients + 1)) (turned.begun ++ middle.0) last.0
@@ -240,28 +170,10 @@ turned_met tells steps journal proper few turned =
 
 -- ---- in turn
 
-in_turn-append : (from : ℕ) (steps more : List Step) → in_turn from steps ≡ true → in_turn (reached from steps) more ≡ true → in_turn from (steps ++ more) ≡ true
-in_turn-append from [] more turn next = next
-in_turn-append from (step ∷ steps) more turn next = ap (λ b. b && in_turn (known_by step) (steps ++ more)) (both_first _ _ turn) ∙ in_turn-append (known_by step) steps more (both_second (place_of step == from) _ turn) next
-
-reached-append : (from : ℕ) (steps more : List Step) → reached from (steps ++ more) ≡ reached (reached from steps) more
-reached-append from [] more = refl
-reached-append from (step ∷ steps) more = reached-append (known_by step) steps more
-
-turned_turn : (tells : Bool) (c : ℕ) (old : List Entry) (number : ℕ) (steps : List Step) (new : List Entry) (last : ℕ) → Turned tells c old number steps new last → (in_turn (length old) steps ≡ true) × (reached (length old) steps ≡ length new)
-turned_turn tells c old number [] new last turned = (refl, ap length turned.0)
-turned_turn tells c old number (made m ∷ steps) new last turned = absurd turned
-turned_turn tells c old number (printed s ∷ steps) new last turned =
-    let long : reach_of s.call s.told ≡ length turned.0 = omega (arith, own-long c s, turned.1.place, ap length turned.1.grows, length-append old (own c s)) in
-    let more : (in_turn (length turned.0) steps ≡ true) × (reached (length turned.0) steps ≡ length new) = turned_turn tells c turned.0 s.seq steps new last turned.2 in (
-      ap (λ n. n == length old && in_turn (reach_of s.call s.told) steps) turned.1.place ∙ ap (λ b. b && in_turn (reach_of s.call s.told) steps) (same_number (length old)) ∙ ap (λ n. in_turn n steps) long ∙ more.0,
-      ap (λ n. reached n steps) long ∙ more.1,
-    )
-
 clients_turn : (tells : Bool) (c : ℕ) (old : List Entry) (clients : List (List Step)) (new : List Entry) → TurnedClients tells c old clients new → (in_turn (length old) (flat_map (λ client. client) clients) ≡ true) × (reached (length old) (flat_map (λ client. client) clients) ≡ length new)
 clients_turn tells c old [] new turned = (refl, ap length turned)
 clients_turn tells c old (client ∷ clients) new turned =
-    let mine : (in_turn (length old) client ≡ true) × (reached (length old) client ≡ length turned.0) = turned_turn tells c old 0 client turned.0 turned.1 turned.2 in
+    let mine : (in_turn (length old) client ≡ true) × (reached (length old) client ≡ length turned.0) = stepped_turn tells c old 0 client turned.0 turned.1 turned.2 in
     let more : (in_turn (length turned.0) (flat_map (λ client. client) clients) ≡ true) × (reached (length turned.0) (flat_map (λ client. client) clients) ≡ length new) = clients_turn tells (c + 1) turned.0 clients new turned.3 in (
       in_turn-append (length old) client (flat_map (λ client. client) clients) mine.0 (ap (λ n. in_turn n (flat_map (λ client. client) clients)) mine.1 ∙ more.0),
       reached-append (length old) client (flat_map (λ client. client) clients) ∙ ap (λ n. reached n (flat_map (λ client. client) clients)) mine.1 ∙ more.1,
@@ -269,48 +181,48 @@ clients_turn tells c old (client ∷ clients) new turned =
 
 side_turn : (tells : Bool) (steps : Sections Step) (journal : List Entry) → TurnedSide tells steps journal → in_turn 0 (in_order steps) ≡ true
 side_turn tells steps journal turned =
-    let first : (in_turn 0 steps.setup ≡ true) × (reached 0 steps.setup ≡ length turned.begun) = turned_turn tells 0 [] 0 steps.setup turned.begun turned.number turned.setup in
+    let first : (in_turn 0 steps.setup ≡ true) × (reached 0 steps.setup ≡ length turned.begun) = stepped_turn tells 0 [] 0 steps.setup turned.begun turned.number turned.setup in
     let middle : (in_turn (length turned.begun) (flat_map (λ client. client) steps.clients) ≡ true) × (reached (length turned.begun) (flat_map (λ client. client) steps.clients) ≡ length turned.ended) = clients_turn tells 1 turned.begun steps.clients turned.ended turned.clients in
-    let last : (in_turn (length turned.ended) steps.finish ≡ true) × (reached (length turned.ended) steps.finish ≡ length journal) = turned_turn tells 0 turned.ended turned.number steps.finish journal turned.last turned.finish in
+    let last : (in_turn (length turned.ended) steps.finish ≡ true) × (reached (length turned.ended) steps.finish ≡ length journal) = stepped_turn tells 0 turned.ended turned.number steps.finish journal turned.last turned.finish in
     in_turn-append 0 steps.setup (flat_map (λ client. client) steps.clients ++ steps.finish) first.0
     (ap (λ n. in_turn n (flat_map (λ client. client) steps.clients ++ steps.finish)) first.1
     ∙ in_turn-append (length turned.begun) (flat_map (λ client. client) steps.clients) steps.finish middle.0 (ap (λ n. in_turn n steps.finish) middle.1 ∙ last.0))
 
 -- ---- both sides
 
-source_side : (st dt : Bool) (runs : Sections LineRun) (source target : List Entry) → IsSerial st dt runs source target → TurnedSide st (steps_to Source runs) source
-source_side st dt runs source target serial =
+abbrev pub source_side : (st dt : Bool) (page : ℕ) (runs : Sections LineRun) (source target : List Entry) → IsSerial st dt page runs source target → TurnedSide st (steps_to Source runs) source
+source_side st dt page runs source target serial =
     record {
       begun = serial.begun.source;
       ended = serial.ended.source;
       number = serial.begun.source_calls;
       last = serial.last.source_calls;
-      setup = source_turned st dt 0 fresh runs.setup serial.begun serial.setup;
-      clients = source_clients st dt 1 serial.begun runs.clients serial.ended serial.clients;
-      finish = subst (λ (j : List Entry). Turned st 0 serial.ended.source serial.begun.source_calls (steps_on Source runs.finish) j serial.last.source_calls) serial.source_is (source_turned st dt 0 _ runs.finish serial.last serial.finish);
+      setup = source_turned st dt page 0 fresh runs.setup serial.begun serial.setup;
+      clients = source_clients st dt page 1 serial.begun runs.clients serial.ended serial.clients;
+      finish = subst (λ (j : List Entry). AreStepsNext st 0 serial.ended.source serial.begun.source_calls (steps_on Source runs.finish) j serial.last.source_calls) serial.source_is (source_turned st dt page 0 _ runs.finish serial.last serial.finish);
     }
 
-target_side : (st dt : Bool) (runs : Sections LineRun) (source target : List Entry) → IsSerial st dt runs source target → TurnedSide dt (steps_to Target runs) target
-target_side st dt runs source target serial =
+abbrev pub target_side : (st dt : Bool) (page : ℕ) (runs : Sections LineRun) (source target : List Entry) → IsSerial st dt page runs source target → TurnedSide dt (steps_to Target runs) target
+target_side st dt page runs source target serial =
     record {
       begun = serial.begun.target;
       ended = serial.ended.target;
       number = serial.begun.target_calls;
       last = serial.last.target_calls;
-      setup = target_turned st dt 0 fresh runs.setup serial.begun serial.setup;
-      clients = target_clients st dt 1 serial.begun runs.clients serial.ended serial.clients;
-      finish = subst (λ (j : List Entry). Turned dt 0 serial.ended.target serial.begun.target_calls (steps_on Target runs.finish) j serial.last.target_calls) serial.target_is (target_turned st dt 0 _ runs.finish serial.last serial.finish);
+      setup = target_turned st dt page 0 fresh runs.setup serial.begun serial.setup;
+      clients = target_clients st dt page 1 serial.begun runs.clients serial.ended serial.clients;
+      finish = subst (λ (j : List Entry). AreStepsNext dt 0 serial.ended.target serial.begun.target_calls (steps_on Target runs.finish) j serial.last.target_calls) serial.target_is (target_turned st dt page 0 _ runs.finish serial.last serial.finish);
     }
 
-pub serial_source : (st dt : Bool) (runs : Sections LineRun) (source target : List Entry) → is_proper source ≡ true → length source ≤ journal_limit → IsSerial st dt runs source target → IsSide st source (steps_to Source runs)
-serial_source st dt runs source target proper few serial = met_side st source (steps_to Source runs) (turned_met st (steps_to Source runs) source proper few (source_side st dt runs source target serial))
+pub serial_source : (st dt : Bool) (page : ℕ) (runs : Sections LineRun) (source target : List Entry) → is_proper source ≡ true → length source ≤ journal_limit → IsSerial st dt page runs source target → IsSide st source (steps_to Source runs)
+serial_source st dt page runs source target proper few serial = met_side st source (steps_to Source runs) (turned_met st (steps_to Source runs) source proper few (source_side st dt page runs source target serial))
 
-pub serial_target : (st dt : Bool) (runs : Sections LineRun) (source target : List Entry) → is_proper target ≡ true → length target ≤ journal_limit → IsSerial st dt runs source target → IsSide dt target (steps_to Target runs)
-serial_target st dt runs source target proper few serial = met_side dt target (steps_to Target runs) (turned_met dt (steps_to Target runs) target proper few (target_side st dt runs source target serial))
+pub serial_target : (st dt : Bool) (page : ℕ) (runs : Sections LineRun) (source target : List Entry) → is_proper target ≡ true → length target ≤ journal_limit → IsSerial st dt page runs source target → IsSide dt target (steps_to Target runs)
+serial_target st dt page runs source target proper few serial = met_side dt target (steps_to Target runs) (turned_met dt (steps_to Target runs) target proper few (target_side st dt page runs source target serial))
 
-pub serial_turn : (st dt : Bool) (runs : Sections LineRun) (source target : List Entry) → IsSerial st dt runs source target → IsInTurn runs
-serial_turn st dt runs source target serial =
+pub serial_turn : (st dt : Bool) (page : ℕ) (runs : Sections LineRun) (source target : List Entry) → IsSerial st dt page runs source target → IsInTurn runs
+serial_turn st dt page runs source target serial =
     record {
-      source = side_turn st (steps_to Source runs) source (source_side st dt runs source target serial);
-      target = side_turn dt (steps_to Target runs) target (target_side st dt runs source target serial);
+      source = side_turn st (steps_to Source runs) source (source_side st dt page runs source target serial);
+      target = side_turn dt (steps_to Target runs) target (target_side st dt page runs source target serial);
     }

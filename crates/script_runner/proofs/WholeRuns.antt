@@ -28,12 +28,13 @@ use Rattle.script_runner.specs.InTurn.{World, AreLinesRun, AreClientsRun, fresh}
 use Rattle.script_runner.specs.Keeping.{new_client, kept_of}
 use Rattle.script_runner.specs.Nodes.{world}
 use Rattle.script_runner.specs.Sections.{IsSectionRun, unnumbered, AreClientsTo, AreSectionsRun}
+use Rattle.script_runner.proofs.AroundSyncs.{serial_syncs}
 use Rattle.script_runner.proofs.TurnedRuns.{serial_source, serial_target, serial_turn}
 
 -- each client counts its own calls
-from_unnumbered : (st dt : Bool) (c : ℕ) (begun : World) (clients : List (List LineRun)) (new : World) → AreClientsRun st dt c (unnumbered begun.source begun.target) clients new → AreClientsRun st dt c begun clients new
-from_unnumbered st dt c begun [] new made = made
-from_unnumbered st dt c begun (client ∷ clients) new made = made
+from_unnumbered : (st dt : Bool) (page c : ℕ) (begun : World) (clients : List (List LineRun)) (new : World) → AreClientsRun st dt page c (unnumbered begun.source begun.target) clients new → AreClientsRun st dt page c begun clients new
+from_unnumbered st dt page c begun [] new made = made
+from_unnumbered st dt page c begun (client ∷ clients) new made = made
 
 -- over stores whose counts rise at most so often there are at most so many faulted entries
 pub few_faulted : {S : Type 0} (faults : S → ℕ) (first last : NamenodeValue S) (most : ℕ) → first.entries ≡ [] → CountsFaults faults first last → RisesAtMost most faults (faults first.store) → fault_count last.entries ≤ most
@@ -91,13 +92,13 @@ sections_ran st dt told_s told_t late_s late_t page clients c d from_s from_t to
         begun = begun;
         ended = unnumbered es et;
         last = last;
-        setup = subst (λ n. AreLinesRun st dt n fresh front.runs begun) zero (subst (λ (w : World). AreLinesRun st dt c w front.runs begun) first_world front.made);
+        setup = subst (λ n. AreLinesRun st dt page n fresh front.runs begun) zero (subst (λ (w : World). AreLinesRun st dt page c w front.runs begun) first_world front.made);
         clients =
-            from_unnumbered st dt 1 begun middle.clients (unnumbered es et)
-            (subst (λ b. AreClientsRun b dt 1 (unnumbered bs bt) middle.clients (unnumbered es et)) same_s (subst (λ b. AreClientsRun told_s b 1 (unnumbered bs bt) middle.clients (unnumbered es et)) same_t middle.made));
+            from_unnumbered st dt page 1 begun middle.clients (unnumbered es et)
+            (subst (λ b. AreClientsRun b dt page 1 (unnumbered bs bt) middle.clients (unnumbered es et)) same_s (subst (λ b. AreClientsRun told_s b page 1 (unnumbered bs bt) middle.clients (unnumbered es et)) same_t middle.made));
         finish =
-            subst (λ n. AreLinesRun st dt n resumed back.runs last) zero_too
-            (subst (λ b. AreLinesRun b dt d resumed back.runs last) also_s (subst (λ b. AreLinesRun late_s b d resumed back.runs last) also_t back.made));
+            subst (λ n. AreLinesRun st dt page n resumed back.runs last) zero_too
+            (subst (λ b. AreLinesRun b dt page d resumed back.runs last) also_s (subst (λ b. AreLinesRun late_s b page d resumed back.runs last) also_t back.made));
         source_is = refl;
         target_is = refl;
       };
@@ -122,12 +123,13 @@ whole_run told_s told_t st dt page clients lines script made_s made_t source tar
         setup_calls = ran.setup_calls;
         client_calls = ran.client_calls;
         finish_calls = ran.finish_calls;
-        source = serial_source told_s told_t ran.runs made_s made_t proper_s few_s ran.serial;
-        target = serial_target told_s told_t ran.runs made_s made_t proper_t few_t ran.serial;
+        source = serial_source told_s told_t page ran.runs made_s made_t proper_s few_s ran.serial;
+        target = serial_target told_s told_t page ran.runs made_s made_t proper_t few_t ran.serial;
+        syncs = serial_syncs told_s told_t page ran.runs made_s made_t ran.serial;
         source_end = shown_s;
         target_end = shown_t;
       };
-      turn = serial_turn told_s told_t ran.runs made_s made_t ran.serial;
+      turn = serial_turn told_s told_t page ran.runs made_s made_t ran.serial;
     } in
     subst (λ (j : List Entry). IsRunInTurn st dt page clients script (record { status = Ok_status; source = j; target = target; logs = logs; source_end = source_end; target_end = target_end })) (sym source_is)
     (subst (λ (j : List Entry). IsRunInTurn st dt page clients script (record { status = Ok_status; source = made_s; target = j; logs = logs; source_end = source_end; target_end = target_end })) (sym target_is)

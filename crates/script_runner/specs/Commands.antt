@@ -7,12 +7,15 @@ use Rattle.hs_plain.specs.Legal.{Said}
 use Rattle.page_join.specs.Links.{Known}
 use Rattle.page_join.specs.Made.{AreMade}
 use Rattle.script_text.specs.declared.command.Command.{Command}
+use Rattle.script_text.specs.declared.command.Command.TheVariants as commands
 use Rattle.script_text.specs.declared.command.Pages.{Pages}
 use Rattle.script_text.specs.declared.command.Pages.TheVariants as pages
 use Rattle.script_text.specs.declared.command.PagesKind.{PagesKind}
 use Rattle.script_text.specs.declared.command.PagesKind.TheVariants as kinds
-use Rattle.run_output.specs.Calls.{Kept, first_call, behind, IsOne, AreAllPages, AreOf, kept_by, side_of}
+use Rattle.run_output.specs.Calls.{Kept, first_call, behind, IsOne, AreAllPages, AreOf, kept_by}
 use Rattle.script_runner.specs.declared.client.Cursors.{Cursors}
+use Rattle.script_runner.specs.declared.commands.Ask.{Ask}
+use Rattle.script_runner.specs.declared.commands.Ask.TheVariants as asks
 use Rattle.script_runner.specs.Keeping.{with_cursor, next_kept}
 
 -- a link made these calls, and got these replies
@@ -53,10 +56,17 @@ IsMoreAsked page kind old new kept now replies = IsNextAsked kind (next_kept pag
 abbrev pub on_each : ℕ → Cursors → Kept
 on_each page cursors side = next_kept page cursors
 
--- a command's calls were made, and its cursor is kept
-pub record IsCommandAsked (page : ℕ) (command : Command) (old new : Known) (kept now : Cursors) (replies : List Answered) : Type 0 where
+-- the command that asks a side for this
+abbrev pub asked_command : Side → Ask → Command
+asked_command side (asks.Call call) = commands.Call side call
+asked_command side (asks.All what) = commands.All side what
+asked_command side (asks.First what) = commands.First side what
+asked_command side (asks.More kind) = commands.More side kind
+
+-- a command's calls were made on its side, and its cursor is kept
+pub record IsAskDone (page : ℕ) (ask : Ask) (old new : Known) (kept now : Cursors) (replies : List Answered) : Type 0 where
   pub said : List Said
-  pub calls : AreOf page (on_each page kept) command said
+  pub calls : (side : Side) → AreOf page (on_each page kept) (asked_command side ask) said
   pub made : AreMade old new said
   pub replies_are : replies ≡ map (λ s. s.told) said
-  pub keeps : (side : Side) → side_of command ≡ Some side → next_kept page now ≡ kept_by page (on_each page kept) command said side
+  pub keeps : (side : Side) → next_kept page now ≡ kept_by page (on_each page kept) (asked_command side ask) said side

@@ -1,12 +1,16 @@
 -- What only proofs use: what links to a namenode promise, and a run whose calls were made through them.
-use Rattle.std.specs.Prelude.{◌≡◌, ℕ, ◌+◌, ◌-◌, ◌^◌, ◌≤◌, min, ⊤, Bool, true, ◌==◌, nat_lt, List, [], ◌∷◌, ◌++◌, length}
+use Rattle.std.specs.Prelude.{◌≡◌, ℕ, ◌+◌, ◌-◌, ◌^◌, ◌≤◌, min, ⊤, Bool, true, ◌==◌, nat_lt, nat_le, List, [], ◌∷◌, ◌++◌, length}
 use Rattle.std.specs.List.{filter, list_all}
 use Rattle.std.specs.Option.{option_to_list}
+use Rattle.hs_types.specs.declared.call.Call.TheVariants as calls
+use Rattle.hs_types.specs.declared.call.ReadCursor.{ReadCursor}
 use Rattle.hs_types.specs.declared.journal.Entry.{Entry}
+use Rattle.hs_types.specs.declared.journal.EntryKind.TheVariants.{Faulted}
 use Rattle.hs_types.specs.Limits.{journal_limit}
 use Rattle.hs_plain.specs.Legal.{Said, entry_left, number_rises, places_of}
 use Rattle.hs_plain.specs.Replay.{is_proper}
-use Rattle.run_output.specs.Steps.{Sections, Made, Step, printed, made}
+use Rattle.copy_workers.specs.declared.copied.Made.{Made}
+use Rattle.run_output.specs.Steps.{Sections, Step, printed, made, failed, counted}
 use Rattle.run_output.specs.Run.{caller, IsLegal}
 
 abbrev pub is_of : ℕ → Entry → Bool
@@ -33,22 +37,39 @@ pub record IsMadeBy (c : ℕ) (old : List Entry) (number : ℕ) (new : List Entr
   pub foreign : filter (is_of c) others ≡ []
   pub entry : Entry
   pub by : entry.caller.0 ≡ c
-  pub caller_is : m.caller ≡ c
+  pub caller_is : m.caller.0 ≡ c
   pub seq_is : entry.seq ≡ m.seq
   pub grows : new ≡ (old ++ others) ++ entry ∷ []
   pub place : m.position ≡ length (old ++ others)
   pub counted : number_rises number m.seq ≡ true
+
+-- one read of a sync that left an entry, since the store failed
+pub record IsFailedBy (c : ℕ) (old new : List Entry) (position : ℕ) : Type 0 where
+  pub others : List Entry
+  pub foreign : filter (is_of c) others ≡ []
+  pub entry : Entry
+  pub by : entry.caller.0 ≡ c
+  pub kind_is : entry.kind ≡ Faulted
+  pub cursor : ReadCursor
+  pub len : ℕ
+  pub call_is : entry.call ≡ calls.ReadNext cursor len
+  pub grows : new ≡ (old ++ others) ++ entry ∷ []
+  pub place : position ≡ length (old ++ others)
 
 -- calls of a link, one after the other, and what is seen at the end, which another link may have told it
 abbrev pub AreLinked : Bool → ℕ → List Entry → ℕ → List Step → List Entry → Type 0
 AreLinked tells c old number [] new = (others : List Entry) × (new ≡ old ++ others) × (filter (is_of c) others ≡ [])
 AreLinked tells c old number (printed said ∷ more) new = (seen : List Entry) × IsCalled tells c old number seen said × AreLinked tells c seen said.seq more new
 AreLinked tells c old number (made m ∷ more) new = (seen : List Entry) × IsMadeBy c old number seen m × AreLinked tells c seen m.seq more new
+AreLinked tells c old number (failed position ∷ more) new = (seen : List Entry) × IsFailedBy c old seen position × AreLinked tells c seen number more new
+AreLinked tells c old number (counted n ∷ more) new = (nat_le number n ≡ true) × AreLinked tells c old n more new
 
 abbrev pub last_number : ℕ → List Step → ℕ
 last_number number [] = number
 last_number number (printed said ∷ more) = last_number said.seq more
 last_number number (made m ∷ more) = last_number m.seq more
+last_number number (failed position ∷ more) = last_number number more
+last_number number (counted n ∷ more) = last_number n more
 
 -- a client's link begins with what setup's saw, and finish's link then knows what the client saw
 pub record IsClientMet (tells : Bool) (begun ended journal : List Entry) (c : ℕ) (client : List Step) : Type 0 where

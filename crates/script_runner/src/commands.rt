@@ -1,14 +1,26 @@
 //! The calls of one command, through a link.
-ghost use Rattle.std.specs.Prelude.{◌≡◌, true, Some, IfOk};
-ghost use Rattle.script_text.specs.Today.{is_command_today};
+ghost use Rattle.std.specs.Prelude.{◌≡◌, Some, IfOk};
 ghost use Rattle.run_output.specs.Calls.{IsOne};
-ghost use Rattle.script_runner.specs.Commands.{AreAll, AreAsked, IsAskedAndKept, IsFirstAsked, IsMoreAsked, IsCommandAsked};
+ghost use Rattle.script_runner.specs.Commands.{AreAll, AreAsked, IsAskedAndKept, IsFirstAsked, IsMoreAsked, IsAskDone};
 
 use crate::client::Cursors;
 use hs_types::{Answered, Call, List, NoMemory, PageSize};
 use page_join::{ListStart, NameLink, ReadStart, ReportStart, list_all, read_all, report_all};
-use script_text::{Command, Pages, PagesKind};
+use script_text::{Pages, PagesKind};
 use std::alloc::Global;
+
+/// What a command asks its side for.
+#[derive(Drop)]
+pub(crate) enum Ask {
+    /// A call without pages.
+    Call(Call),
+    /// All pages, one after the other.
+    All(Pages),
+    /// The first page alone, whose cursor is kept.
+    First(Pages),
+    /// The page at the kept cursor.
+    More(PagesKind),
+}
 
 /// Makes one call.
 fn ask_once<L: NameLink>(
@@ -107,24 +119,22 @@ fn ask_more<L: NameLink>(
     }
 }
 
-/// Makes the calls of a command. A sync isn't run yet.
+/// Makes the calls of a command that asks one side.
 pub(crate) fn ask_command<L: NameLink>(
     alloc: Global,
     link: &mut L,
     cursors: &mut Cursors,
     page: PageSize,
-    command: Command,
+    ask: Ask,
 ) -> Result<List<Answered>, NoMemory>
-    requires today { is_command_today command ≡ true }
     ensures alone { L.alone link.new ≡ L.alone link.old }
     ensures stays { L.stays link.old link.new }
-    ensures asked { IfOk result (IsCommandAsked page command (L.known link.old) (L.known link.new) cursors.old cursors.new) }
+    ensures asked { IfOk result (IsAskDone page ask (L.known link.old) (L.known link.new) cursors.old cursors.new) }
 {
-    match command {
-        Command::Call { call, .. } => ask_once(alloc, link, call),
-        Command::All { pages, .. } => ask_all(alloc, link, page, pages),
-        Command::First { pages, .. } => ask_first(alloc, link, cursors, page, pages),
-        Command::More { kind, .. } => ask_more(alloc, link, cursors, page, kind),
-        Command::Sync { .. } => unreachable!(),
+    match ask {
+        Ask::Call(call) => ask_once(alloc, link, call),
+        Ask::All(pages) => ask_all(alloc, link, page, pages),
+        Ask::First(pages) => ask_first(alloc, link, cursors, page, pages),
+        Ask::More(kind) => ask_more(alloc, link, cursors, page, kind),
     }
 }

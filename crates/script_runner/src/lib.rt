@@ -6,5 +6,6 @@ mod commands;
 mod nodes;
 mod sections;
 pub mod serial;
+mod syncs;
 
 pub use serial::{Options, serial_script};

@@ -1,34 +1,21 @@
 //! The sections of a script, run one after the other.
 ghost use Rattle.std.specs.Prelude.{◌≡◌, ◌≤◌, ◌+◌, ◌++◌, ◌∷◌, [], true, false, if◌then◌else◌, is_some, length, IfOk, OnOk};
 ghost use Rattle.std.specs.Option.{option_to_list};
-ghost use Rattle.std.specs.List.{list_all};
 ghost use Rattle.hs_types.specs.Limits.{journal_limit};
-ghost use Rattle.script_text.specs.Today.{is_line_today};
-ghost use Rattle.run_output.specs.Run.{is_section as plain_is_section, what_of as plain_what_of};
+ghost use Rattle.run_output.specs.Run.{is_section as plain_is_section};
 ghost use Rattle.script_text.specs.Order.{are_ordered};
 ghost use Rattle.script_runner.specs.Keeping.{kept_of};
 ghost use Rattle.script_runner.specs.Nodes.{world, StaysNode};
 ghost use Rattle.script_runner.specs.Sections.{IsLineRun, IsSectionRun, is_past, IsFront, IsClientRun, AreClientsTo, AreSectionsRun};
 
 use crate::client::Client;
-use crate::nodes::{Nodes, run_command, side_of};
+use crate::nodes::{Nodes, run_command};
 use block_store::BlockStore;
-use hs_types::{Answered, CallerId, List, NoMemory, PageSize, Side};
-use run_output::{ClientLog, LogItem, LogWhat};
+use hs_types::{CallerId, List, NoMemory, PageSize};
+use run_output::{ClientLog, LogItem};
 use script_text::{ScriptLine, Section};
 use std::alloc::Global;
 use std::collections::VecDeque;
-
-/// What a line logs.
-fn what_of(side: Side, list: List<Answered>) -> LogWhat
-    ensures { result ≡ plain_what_of side list }
-{
-    if list.is_empty() {
-        LogWhat::NoCursor { side }
-    } else {
-        LogWhat::Replies { side, list }
-    }
-}
 
 /// Runs a line of the script.
 fn run_line<B: BlockStore>(
@@ -40,19 +27,14 @@ fn run_line<B: BlockStore>(
 ) -> Result<LogItem, NoMemory>
     requires usual_source { nodes.old.source.limit ≡ journal_limit }
     requires usual_target { nodes.old.target.limit ≡ journal_limit }
-    requires today { is_line_today line ≡ true }
     ensures ran { IfOk result (IsLineRun (is_some (B.blocks nodes.old.source.store)) (is_some (B.blocks nodes.old.target.store)) page client.old.caller.0 (world nodes.old.source.entries nodes.old.target.entries client.old) (world nodes.new.source.entries nodes.new.target.entries client.new) (kept_of page client.old) (kept_of page client.new) line) }
     ensures caller { client.new.caller ≡ client.old.caller }
     ensures source_stays { OnOk result (StaysNode B.blocks B.faults nodes.old.source nodes.new.source) }
     ensures target_stays { OnOk result (StaysNode B.blocks B.faults nodes.old.target nodes.new.target) }
 {
     let ScriptLine { line, command, .. } = line;
-    let side = side_of(&command);
-    let list = run_command(alloc, nodes, client, page, command)?;
-    Ok(LogItem {
-        line,
-        what: what_of(side, list),
-    })
+    let what = run_command(alloc, nodes, client, page, command)?;
+    Ok(LogItem { line, what })
 }
 
 /// Whether these are one section.
@@ -99,10 +81,8 @@ fn run_section<B: BlockStore>(
 ) -> Result<List<LogItem>, NoMemory>
     requires usual_source { nodes.old.source.limit ≡ journal_limit }
     requires usual_target { nodes.old.target.limit ≡ journal_limit }
-    requires today { list_all is_line_today rest.old.items ≡ true }
     ensures ran { IfOk result (IsSectionRun (is_some (B.blocks nodes.old.source.store)) (is_some (B.blocks nodes.old.target.store)) page client.old.caller.0 section (world nodes.old.source.entries nodes.old.target.entries client.old) (world nodes.new.source.entries nodes.new.target.entries client.new) (kept_of page client.old) (kept_of page client.new) rest.old.items rest.new.items) }
     ensures past { OnOk result (is_past section rest.new.items ≡ true) }
-    ensures today { OnOk result (list_all is_line_today rest.new.items ≡ true) }
     ensures caller { client.new.caller ≡ client.old.caller }
     ensures source_stays { OnOk result (StaysNode B.blocks B.faults nodes.old.source nodes.new.source) }
     ensures target_stays { OnOk result (StaysNode B.blocks B.faults nodes.old.target nodes.new.target) }
@@ -127,10 +107,8 @@ fn run_client<B: BlockStore>(
 ) -> Result<ClientLog, NoMemory>
     requires usual_source { nodes.old.source.limit ≡ journal_limit }
     requires usual_target { nodes.old.target.limit ≡ journal_limit }
-    requires today { list_all is_line_today rest.old.items ≡ true }
     ensures ran { IfOk result (IsClientRun (is_some (B.blocks nodes.old.source.store)) (is_some (B.blocks nodes.old.target.store)) page number nodes.old.source.entries nodes.old.target.entries nodes.new.source.entries nodes.new.target.entries rest.old.items rest.new.items) }
     ensures past { OnOk result (is_past (Section.Client number) rest.new.items ≡ true) }
-    ensures today { OnOk result (list_all is_line_today rest.new.items ≡ true) }
     ensures source_stays { OnOk result (StaysNode B.blocks B.faults nodes.old.source nodes.new.source) }
     ensures target_stays { OnOk result (StaysNode B.blocks B.faults nodes.old.target nodes.new.target) }
 {
@@ -152,10 +130,8 @@ fn run_clients<B: BlockStore>(
     requires few { clients ≤ 16 }
     requires usual_source { nodes.old.source.limit ≡ journal_limit }
     requires usual_target { nodes.old.target.limit ≡ journal_limit }
-    requires today { list_all is_line_today rest.old.items ≡ true }
     requires order { are_ordered clients 1 rest.old.items ≡ true }
     ensures ran { OnOk result (AreClientsTo (is_some (B.blocks nodes.old.source.store)) (is_some (B.blocks nodes.old.target.store)) page clients nodes.old.source.entries nodes.old.target.entries nodes.new.source.entries nodes.new.target.entries rest.old.items rest.new.items logs.old.items logs.new.items) }
-    ensures today { OnOk result (list_all is_line_today rest.new.items ≡ true) }
     ensures order { OnOk result (are_ordered clients (clients + 1) rest.new.items ≡ true) }
     ensures source_stays { OnOk result (StaysNode B.blocks B.faults nodes.old.source nodes.new.source) }
     ensures target_stays { OnOk result (StaysNode B.blocks B.faults nodes.old.target nodes.new.target) }
@@ -181,7 +157,6 @@ pub(crate) fn run_sections<B: BlockStore>(
     requires few { clients ≤ 16 }
     requires usual_source { nodes.old.source.limit ≡ journal_limit }
     requires usual_target { nodes.old.target.limit ≡ journal_limit }
-    requires today { list_all is_line_today rest.old.items ≡ true }
     requires order { are_ordered clients 0 rest.old.items ≡ true }
     ensures ran { IfOk result (AreSectionsRun (is_some (B.blocks nodes.old.source.store)) (is_some (B.blocks nodes.old.target.store)) page clients rest.old.items nodes.new.source.entries nodes.new.target.entries) }
     ensures source_stays { OnOk result (StaysNode B.blocks B.faults nodes.old.source nodes.new.source) }

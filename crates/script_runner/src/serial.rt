@@ -1,7 +1,5 @@
 //! A whole run of a script, one command after the other.
 ghost use Rattle.std.specs.Prelude.{◌≡◌, ◌≤◌, ℕ, [], true, is_some, length, IfOk, IfSome};
-ghost use Rattle.std.specs.List.{list_all};
-ghost use Rattle.script_text.specs.Today.{is_line_today};
 ghost use Rattle.run_output.specs.Run.{IsEndOf, IsRunInTurn};
 ghost use Rattle.namenode_write.specs.Faulted.{fault_count};
 ghost use Rattle.namenode_write.specs.FaultCounts.{RisesAtMost};
@@ -49,8 +47,7 @@ pub fn serial_script<B: BlockStore>(
     requires source_empty { IfSome (B.blocks source_blocks) (λ map. map ≡ []) }
     requires target_empty { IfSome (B.blocks target_blocks) (λ map. map ≡ []) }
 
-    // A script as it is read today.
-    requires today { list_all is_line_today script.lines ≡ true }
+    // A script as it is read.
     requires few_clients { script.clients ≤ 16 }
     requires order { are_ordered script.clients 0 script.lines ≡ true }
 

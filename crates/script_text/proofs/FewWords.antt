@@ -1,5 +1,5 @@
 -- The first six words of a line tell what it means.
-use Rattle.std.proofs.Common.{◌≡◌, ℕ, cond, ◌&&◌, bytes_eq, codes, Option, Some, None, Result, Ok, Err, List, [], ◌∷◌, take, refl, ap, ◌∙◌}
+use Rattle.std.proofs.Common.{◌≡◌, ℕ, cond, bytes_eq, codes, Option, Some, None, Result, Ok, Err, List, [], ◌∷◌, take, refl, ap, ◌∙◌}
 use Rattle.hs_types.specs.declared.ids.Side.{Side}
 use Rattle.hs_types.specs.declared.ids.Side.TheVariants.{Source, Target}
 use Rattle.script_text.specs.declared.command.Command.{Command}
@@ -12,7 +12,6 @@ use Rattle.script_text.specs.declared.script.Standing.{Standing}
 use Rattle.script_text.specs.Commands.{known_command, word_of, sync_command}
 use Rattle.script_text.specs.Headings.{is_heading, after_heading}
 use Rattle.script_text.specs.Scripts.{line_of, heading_line, command_line}
-use Rattle.script_text.specs.Today.{is_sync_read_today}
 use Rattle.script_text.specs.Words.{is_comment}
 
 many : (side : Side) (word : Option CommandWord) (c d e f : List ℕ) (more : List (List ℕ)) → known_command side word (c ∷ d ∷ e ∷ f ∷ []) ≡ known_command side word (c ∷ d ∷ e ∷ f ∷ more)
@@ -27,7 +26,7 @@ by_sides standing first rest source target =
     (command_line
     (cond (bytes_eq first (codes "s")) source
     (cond (bytes_eq first (codes "t")) target
-    (cond (bytes_eq first (codes "sync") && is_sync_read_today) (sync_command rest) (Err kinds.Command))))))
+    (cond (bytes_eq first (codes "sync")) (sync_command rest) (Err kinds.Command))))))
 
 pub few_words : (standing : Standing) (words : List (List ℕ)) → line_of standing (take 6 words) ≡ line_of standing words
 few_words standing [] = refl

@@ -7,4 +7,3 @@ pub mod Digits
 pub mod FewWords
 pub mod Keywords
 pub mod Results
-pub mod Todays

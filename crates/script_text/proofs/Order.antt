@@ -217,12 +217,14 @@ all_lead (Ok reading) (line ∷ lines) holds = all_lead (or_fault reading (line_
 
 -- ---- a script
 
-pub script_order : (bytes : List ℕ) (script : Script) → meaning_of bytes ≡ Ok script → are_ordered script.clients 0 script.lines ≡ true
-script_order bytes script is = by (fold read_line (Ok start) (lines_of bytes)) (all_lead (Ok start) (lines_of bytes) starts) is
-  where
-    of_reading : (reading : Reading) → IsSoFar reading → record { lines = reading.lines; clients = reading.standing.clients } ≡ script → are_ordered script.clients 0 script.lines ≡ true
-    of_reading reading kept same = subst (λ (s : Script). are_ordered s.clients 0 s.lines ≡ true) same kept.ordered
+abbrev IsFine : Result Script ScriptFault → Type 0
+IsFine (Err fault) = Unit {0}
+IsFine (Ok script) = (are_ordered script.clients 0 script.lines ≡ true) × (script.clients ≤ 16)
 
-    by : (result : Result Reading ScriptFault) → Holds result → script_of result ≡ Ok script → are_ordered script.clients 0 script.lines ≡ true
-    by (Err fault) holds is = absurd (cc)
-    by (Ok reading) holds is = of_reading reading holds (cc)
+fine : (result : Result Reading ScriptFault) → Holds result → IsFine (script_of result)
+fine (Err fault) holds = tt
+fine (Ok reading) holds = (holds.ordered, holds.most)
+
+-- a script that was read is in order, and has at most 16 clients
+pub script_order : (bytes : List ℕ) (script : Script) → meaning_of bytes ≡ Ok script → (are_ordered script.clients 0 script.lines ≡ true) × (script.clients ≤ 16)
+script_order bytes script is = subst IsFine is (fine (fold read_line (Ok start) (lines_of bytes)) (all_lead (Ok start) (lines_of bytes) starts))

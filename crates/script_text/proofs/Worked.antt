@@ -1,6 +1,9 @@
 -- Worked examples of the generator, by computation.
 use Rattle.std.proofs.Common.{◌≡◌, refl}
 use Rattle.std.specs.Fmt.{digits}
+use Rattle.std.specs.Str.{is_utf8, chars}
+use lib.Utf8.{encode}
+use Rattle.percent_encoding.specs.Percent.{percent_decode}
 use Rattle.script_text.specs.Generator.{round}
 use Rattle.script_text.specs.Worked.{second_round, third_round, SeventhRounds, LeastScript}
 
@@ -16,5 +19,5 @@ pub seventh_rounds : SeventhRounds
 seventh_rounds = record { numbers = refl; second = second; third = third }
 
 pub least_script : LeastScript
-unfolding digits
+unfolding digits is_utf8 chars encode percent_decode
 least_script = refl

@@ -1,5 +1,5 @@
 -- What a command line says.
-use Rattle.std.specs.Prelude.{ℕ, Bool, true, false, ◌&&◌, bytes_eq, codes, nat_le, if◌then◌else◌, List, [], ◌∷◌, length, replicate, Option, Some, None, Result, Ok, Err}
+use Rattle.std.specs.Prelude.{ℕ, Bool, true, false, bytes_eq, codes, nat_le, if◌then◌else◌, List, [], ◌∷◌, length, replicate, Option, Some, None, Result, Ok, Err}
 use Rattle.std.specs.List.{list_all}
 use Rattle.std.specs.Map.{lookup}
 use Rattle.std.specs.Str.{is_utf8}
@@ -18,7 +18,6 @@ use Rattle.script_text.specs.declared.command_word.CommandWord.TheVariants as sp
 use Rattle.script_text.specs.declared.fault.FaultKind.{FaultKind}
 use Rattle.script_text.specs.declared.fault.FaultKind.TheVariants as kinds
 use Rattle.script_text.specs.Numbers.{count_of, byte_of, mode_of}
-use Rattle.script_text.specs.Today.{is_sync_read_today}
 
 -- ---- the command words
 
@@ -149,5 +148,5 @@ command_of [] = Err kinds.Command
 command_of (first ∷ rest) =
     if bytes_eq first (codes "s") then side_command Source rest
     else if bytes_eq first (codes "t") then side_command Target rest
-    else if bytes_eq first (codes "sync") && is_sync_read_today then sync_command rest
+    else if bytes_eq first (codes "sync") then sync_command rest
     else Err kinds.Command

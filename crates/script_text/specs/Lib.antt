@@ -5,6 +5,5 @@ pub mod Headings
 pub mod Numbers
 pub mod Order
 pub mod Scripts
-pub mod Today
 pub mod Words
 pub mod Worked

@@ -1,9 +1,10 @@
 -- Worked examples of the generator.
-use Rattle.std.specs.Prelude.{◌≡◌, ℕ, codes, List, [], ◌∷◌, map}
-use Rattle.std.specs.List.{range_with_len}
-use Rattle.hs_types.specs.declared.ids.Side.TheVariants.{Source, Target}
+use Rattle.std.specs.Prelude.{◌≡◌, ℕ, codes, List, [], ◌∷◌, ◌++◌, map, Ok}
+use Rattle.std.specs.List.{flat_map, range_with_len}
+use Rattle.hs_types.specs.declared.ids.Side.TheVariants.{Source}
 use Rattle.script_text.specs.declared.command.Command.{Command}
-use Rattle.script_text.specs.Generator.{number_after, mkdir, allow, snap, create, append, mv, rm, sync, round, numbered, generated}
+use Rattle.script_text.specs.Generator.{number_after, snap, create, append, mv, rm, round, generated}
+use Rattle.script_text.specs.Scripts.{meaning_of}
 
 -- the twelve numbers of three rounds
 abbrev pub seventh_numbers : List ℕ
@@ -36,27 +37,28 @@ SeventhRounds = record {
   third : round 7 20 10 3 ≡ third_round;
 }
 
-abbrev pub least_commands : List Command
-least_commands =
-    mkdir Source (codes "/r")
-    ∷ allow Source (codes "/r")
-    ∷ snap Source 0
-    ∷ mkdir Target (codes "/r")
-    ∷ allow Target (codes "/r")
-    ∷ snap Target 0
-    ∷ mkdir Source (codes "/r/d0")
-    ∷ create (codes "/r/d0/f0")
-    ∷ snap Source 1
-    ∷ sync 0 1
-    ∷ snap Target 1
-    ∷ append (codes "/r/d0/f0") (codes "2")
-    ∷ create (codes "/r/d0/k2")
-    ∷ mv (codes "/r/d0/k2") (codes "/r/d0/m2")
-    ∷ snap Source 2
-    ∷ sync 1 2
-    ∷ snap Target 2
+-- one directory, one file and three snapshots
+abbrev pub least_lines : List (List ℕ)
+least_lines =
+    codes "s mkdir /r"
+    ∷ codes "s allow /r"
+    ∷ codes "s snap /r n0"
+    ∷ codes "t mkdir /r"
+    ∷ codes "t allow /r"
+    ∷ codes "t snap /r n0"
+    ∷ codes "s mkdir /r/d0"
+    ∷ codes "s create /r/d0/f0"
+    ∷ codes "s snap /r n1"
+    ∷ codes "sync /r /r n0 n1"
+    ∷ codes "t snap /r n1"
+    ∷ codes "s append /r/d0/f0 2"
+    ∷ codes "s create /r/d0/k2"
+    ∷ codes "s mv /r/d0/k2 /r/d0/m2"
+    ∷ codes "s snap /r n2"
+    ∷ codes "sync /r /r n1 n2"
+    ∷ codes "t snap /r n2"
     ∷ []
 
--- one directory, one file and three snapshots
+-- its text means the script that is generated
 abbrev pub LeastScript : Type 0
-LeastScript = generated 7 1 1 3 ≡ record { lines = numbered 1 least_commands; clients = 0 }
+LeastScript = meaning_of (flat_map (λ line. line ++ 10 ∷ []) least_lines) ≡ Ok (generated 7 1 1 3)

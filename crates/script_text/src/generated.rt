@@ -1,5 +1,5 @@
 //! The commands that the generator makes, each by its numbers.
-ghost use Rattle.std.specs.Prelude.{◌≡◌, ◌≤◌, length, string_bytes, IfOk, codes};
+ghost use Rattle.std.specs.Prelude.{◌≡◌, IfOk, codes};
 ghost use Rattle.std.specs.Fmt.{decimal};
 ghost use Rattle.script_text.specs.Generator.{root, dir_path, file_path, snap_name, mkdir, allow, snap, create, append, mv, rm, sync};
 

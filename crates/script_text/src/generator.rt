@@ -1,7 +1,7 @@
 //! The generator of scripts: for the same numbers the same script, as large as they say.
-ghost use Rattle.std.specs.Prelude.{◌≡◌, ◌≤◌, ◌<◌, ◌+◌, ◌-◌, ◌*◌, ◌++◌, ◌∷◌, [], true, length, map, IfOk, OnOk, codes};
+ghost use Rattle.std.specs.Prelude.{◌≡◌, ◌≤◌, ◌+◌, ◌-◌, ◌*◌, ◌++◌, true, length, map, IfOk, OnOk, codes};
 ghost use Rattle.std.specs.List.{flat_map, range_with_len};
-ghost use Rattle.script_text.specs.Generator.{create, file_path, snap, root_commands, dir_commands, sync_commands, removal, round_commands, round as plain_round, generated_commands, numbered as plain_numbered, generated};
+ghost use Rattle.script_text.specs.Generator.{create, file_path, root_commands, dir_commands, sync_commands, removal, round_commands, round as plain_round, generated_commands, numbered as plain_numbered, generated};
 ghost use Rattle.script_text.specs.Order.{are_ordered};
 
 use crate::command::Command;

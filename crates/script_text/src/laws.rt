@@ -6,7 +6,7 @@ pub fn worked_rounds()
     ensures { SeventhRounds }
 {}
 
-/// The shortest script that the generator makes.
+/// The shortest script that the generator makes is what its text means.
 pub fn worked_least()
     ensures { LeastScript }
 {}

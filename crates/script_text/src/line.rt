@@ -26,9 +26,6 @@ pub(crate) enum LineMeaning {
     Said(Command),
 }
 
-/// Whether `sync` is read, today.
-const READS_SYNC: bool = false;
-
 /// The sync of two directories, from one snapshot to another.
 fn sync_of(
     alloc: Global,
@@ -66,7 +63,7 @@ fn command_of(alloc: Global, first: &str, rest: &[&[u8]]) -> Result<Command, Lin
     match first {
         "s" => side_command(alloc, Side::Source, rest),
         "t" => side_command(alloc, Side::Target, rest),
-        "sync" if READS_SYNC => sync_command(alloc, rest),
+        "sync" => sync_command(alloc, rest),
         _ => Err(LineFault::Bad(FaultKind::Command)),
     }
 }

@@ -1,9 +1,8 @@
 //! The reader of scripts: one line after the other, from the front.
 ghost use Rattle.std.specs.Prelude.{◌≡◌, ◌≢◌, ◌≤◌, ◌<◌, ◌+◌, ◌∷◌, [], Ok, true, length, IfOk, IfErr, OnOk, IfSome};
-ghost use Rattle.std.specs.List.{list_all, position};
+ghost use Rattle.std.specs.List.{position};
 ghost use Rattle.script_text.specs.Words.{is_line_feed, lines_of};
 ghost use Rattle.script_text.specs.Scripts.{start as plain_start, with_line, read_line as plain_read_line, meaning_of, IsFaultOf};
-ghost use Rattle.script_text.specs.Today.{is_line_today};
 ghost use Rattle.script_text.specs.Order.{are_ordered};
 
 use crate::fault::{LineFault, ReadScriptFault, ScriptFault};
@@ -112,7 +111,6 @@ pub fn read(alloc: Global, bytes: &[u8]) -> Result<Script, ReadScriptFault>
     requires { length bytes.now ≤ 16777216 }
     ensures script { IfOk result (λ script. meaning_of bytes.now ≡ Ok script) }
     ensures bad { IfErr result (IsFaultOf (meaning_of bytes.now)) }
-    ensures today { IfOk result (λ script. list_all is_line_today script.lines ≡ true) }
     ensures clients { IfOk result (λ script. script.clients ≤ 16) }
     ensures order { IfOk result (λ script. are_ordered script.clients 0 script.lines ≡ true) }
 {

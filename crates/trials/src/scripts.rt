@@ -99,6 +99,15 @@ fn print_command(command: &Command, out: &mut String) -> Result<(), Fail> {
             print_side(*side, out)?;
             print_pages(pages, out)
         }
+        Command::Sync {
+            source,
+            target,
+            from,
+            to,
+        } => {
+            print_paths(" sync", [source, target], out)?;
+            Ok(write!(out, " {:?} {:?}", from.text(), to.text())?)
+        }
         _ => Ok(out.push_str("another command")?),
     }
 }
@@ -196,6 +205,10 @@ fn reads_commands(rt: HostRuntime) -> Result<(), Fail> {
             "1- s listing \"/a/.snapshot\"; 2- s file \"/a/.snapshot/s/x\"; clients 0",
         ),
         (
+            "sync /a /b%20b c %64",
+            "1- sync \"/a\" \"/b b\" \"c\" \"d\"; clients 0",
+        ),
+        (
             "setup\ns ls /\nclient 1\nclient 02\nt ls /\nfinish\ns ls /a",
             "2- s listing \"/\"; 52 t listing \"/\"; 7. s listing \"/a\"; clients 2",
         ),
@@ -220,7 +233,11 @@ fn names_the_first_bad_line(rt: HostRuntime) -> Result<(), Fail> {
         ("s Snap /a b", "script line 1: Command"),
         ("s s ls /", "script line 1: Command"),
         ("s sync /a /b c d", "script line 1: Command"),
-        ("sync /a /b c d", "script line 1: Command"),
+        ("sync", "script line 1: Words"),
+        ("sync /a /b c", "script line 1: Words"),
+        ("sync /%ff /b c d e", "script line 1: Words"),
+        ("sync /a /b c %ff", "script line 1: Utf8"),
+        ("Sync /a /b c d", "script line 1: Command"),
         ("s more", "1-another command; clients 0"),
         ("s diff /a b c", "1- s report \"/a\"; clients 0"),
         ("s first /a", "1-another command; clients 0"),
@@ -395,7 +412,7 @@ fn generates_rounds(rt: HostRuntime) -> Result<(), Fail> {
          233- s snap \"/r\" \"n2\"; 234- s append \"/r/d1/f2\" 1 [51]; 235- s create \"/r/d18/k3\" false; \
          236- s rename \"/r/d18/k3\" \"/r/d2/m3\"; 237- s delete \"/r/d5/m2\" false; 238- s snap \"/r\" \"n3\"; \
          239- s append \"/r/d14/f7\" 1 [52]; 240- s create \"/r/d14/k4\" false; 241- s rename \"/r/d14/k4\" \"/r/d16/m4\"; \
-         242- s snap \"/r\" \"n4\"; 243-another command; 244- t snap \"/r\" \"n4\"; lines 244"
+         242- s snap \"/r\" \"n4\"; 243- sync \"/r\" \"/r\" \"n1\" \"n4\"; 244- t snap \"/r\" \"n4\"; lines 244"
         )?
     );
     Ok(())

@@ -1,7 +1,7 @@
 use Rattle.std.proofs.Common.{◌≡◌, ◌++◌, string_bytes, map, drop}
 use Rattle.std.specs.List.{flat_map}
 use Rattle.run_output.specs.TextParts.{ended, indented}
-use Rattle.run_output.specs.Text.{dir_text}
+use Rattle.run_output.specs.ReplyText.{dir_text}
 use Rattle.run_output.proofs.text.write_dirs.Given as goal
 
 -- what is written, and the text of the items that are left, is all

@@ -1,7 +1,7 @@
 use Rattle.std.proofs.Common.{◌≡◌, ◌++◌, string_bytes, map, drop}
 use Rattle.std.specs.List.{flat_map}
 use Rattle.run_output.specs.TextParts.{ended, indented}
-use Rattle.run_output.specs.Text.{line_text}
+use Rattle.run_output.specs.ReplyText.{line_text}
 use Rattle.run_output.proofs.text.write_lines.Given as goal
 
 -- what is written, and the text of the lines that are left, is all

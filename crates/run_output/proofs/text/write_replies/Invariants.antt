@@ -1,7 +1,7 @@
 use Rattle.std.proofs.Common.{◌≡◌, ◌++◌, string_bytes, drop}
 use Rattle.std.specs.List.{flat_map}
 use Rattle.run_output.specs.TextParts.{ended}
-use Rattle.run_output.specs.Text.{answered_lines}
+use Rattle.run_output.specs.ReplyText.{answered_lines}
 use Rattle.run_output.proofs.text.write_replies.Given as goal
 
 -- what is written, and the text of the replies that are left, is all

@@ -9,7 +9,6 @@ use Rattle.script_runner.proofs.sections.run_clients.Goals as goal
 pub loop-index-init : goal.loop-index-init
 loop-index-init g c = record {
   ran = clients_begin (is_some (g.B.BlockStore.blocks c.args.nodes.now.source.store)) (is_some (g.B.BlockStore.blocks c.args.nodes.now.target.store)) c.args.page c.args.nodes.now.source.entries c.args.nodes.now.target.entries c.args.rest.now.items c.args.logs.now.items;
-  today = c.requires.today;
   order = c.requires.order;
   source_stays = stays_first g.B.BlockStore.blocks g.B.BlockStore.faults c.args.nodes.now.source;
   target_stays = stays_first g.B.BlockStore.blocks g.B.BlockStore.faults c.args.nodes.now.target;
@@ -28,7 +27,6 @@ loop-index-preserved g c = record {
       c.args.page c.loop-index.index (c.loop-index.index + 1) c.args.nodes.now.source.entries c.args.nodes.now.target.entries c.loop-index.nodes.source.entries c.loop-index.nodes.target.entries c.run_client.new.nodes.source.entries c.run_client.new.nodes.target.entries
       c.args.rest.now.items c.loop-index.rest.items c.run_client.new.rest.items c.args.logs.now.items c.loop-index.logs.items c.push.new.self.items c.in_ok-log.log
       c.loop-index.invariant.source_stays.tells c.loop-index.invariant.target_stays.tells refl c.in_ok-push.ensures.items c.loop-index.invariant.ran c.in_ok-log.ensures.ran;
-  today = c.in_ok-log.ensures.today;
   order =
       section_order c.args.clients c.requires.few (sections.Client (c.loop-index.index + 1)) c.in_ok-log.ensures.ran.runs c.loop-index.rest.items c.run_client.new.rest.items
       (client_among c.args.clients c.loop-index.index c.loop-index-test.true) c.in_ok-log.ensures.ran.lines c.in_ok-log.ensures.ran.of_section c.in_ok-log.ensures.past c.loop-index.invariant.order;

@@ -3,7 +3,7 @@ use Rattle.std.proofs.Common.{refl, ap, ◌∙◌}
 use Rattle.hs_types.specs.declared.ids.CallerId.{CallerId}
 use Rattle.script_runner.specs.Keeping.{kept_of}
 use Rattle.script_runner.specs.Nodes.{world}
-use Rattle.script_runner.proofs.Lines.{section_step, today_step, section_end, past_end, section_starts, today_starts}
+use Rattle.script_runner.proofs.Lines.{section_step, section_end, past_end, section_starts}
 use Rattle.script_runner.proofs.NodeRuns.{stays_first, stays_then}
 use Rattle.script_runner.proofs.sections.run_section.Goals as goal
 
@@ -12,7 +12,6 @@ loop-next-init g c = record {
   ran =
       section_starts (is_some (g.B.BlockStore.blocks c.args.nodes.now.source.store)) (is_some (g.B.BlockStore.blocks c.args.nodes.now.target.store)) c.args.page c.args.client.now.caller.0 c.args.section
       (world c.args.nodes.now.source.entries c.args.nodes.now.target.entries c.args.client.now) (kept_of c.args.page c.args.client.now) c.args.rest.now.items c.next_in-next.new.rest.items c.next_in-next.result c.new-items.result.items c.new-items.ensures.items c.next_in-next.ensures.taken;
-  today = today_starts c.args.rest.now.items c.next_in-next.new.rest.items c.next_in-next.result c.next_in-next.ensures.taken c.requires.today;
   front = c.next_in-next.ensures.front;
   caller = refl;
   source_stays = stays_first g.B.BlockStore.blocks g.B.BlockStore.faults c.args.nodes.now.source;
@@ -34,7 +33,6 @@ loop-next-preserved g c = record {
       c.args.rest.now.items c.loop-next.rest.items c.next_in-next-in-Some.new.rest.items c.loop-next.next c.next_in-next-in-Some.result c.loop-next.items.items c.push.new.self.items c.in-Some.line c.in_ok-item.item
       c.loop-next.invariant.source_stays.tells c.loop-next.invariant.target_stays.tells (ap (λ (k : CallerId). k.0) c.loop-next.invariant.caller) c.in-Some.is c.loop-next.invariant.front c.next_in-next-in-Some.ensures.taken c.in_ok-push.ensures.items
       c.loop-next.invariant.ran c.in_ok-item.ensures.ran;
-  today = today_step c.loop-next.rest.items c.next_in-next-in-Some.new.rest.items c.loop-next.next c.next_in-next-in-Some.result c.in-Some.line c.in-Some.is c.next_in-next-in-Some.ensures.taken c.loop-next.invariant.today;
   front = c.next_in-next-in-Some.ensures.front;
   caller = c.run_line.ensures.caller ∙ c.loop-next.invariant.caller;
   source_stays = stays_then g.B.BlockStore.blocks g.B.BlockStore.faults c.args.nodes.now.source c.loop-next.nodes.source c.run_line.new.nodes.source c.loop-next.invariant.source_stays c.in_ok-item.ensures.source_stays;

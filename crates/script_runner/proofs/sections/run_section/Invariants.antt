@@ -1,8 +1,6 @@
-use Rattle.std.proofs.Common.{◌≡◌, ◌++◌, true, length}
+use Rattle.std.proofs.Common.{◌≡◌, ◌++◌, length}
 use Rattle.std.specs.Prelude.{is_some}
 use Rattle.std.specs.Option.{option_to_list}
-use Rattle.std.specs.List.{list_all}
-use Rattle.script_text.specs.Today.{is_line_today}
 use Rattle.script_runner.specs.Keeping.{kept_of}
 use Rattle.script_runner.specs.Nodes.{world, StaysNode}
 use Rattle.script_runner.specs.Sections.{IsSectionRun, IsFront}
@@ -14,7 +12,6 @@ invariant-loop-next g l =
     let left = option_to_list l.next ++ l.rest.items in
     record {
       ran : IsSectionRun (is_some (g.B.BlockStore.blocks l.initial.nodes.source.store)) (is_some (g.B.BlockStore.blocks l.initial.nodes.target.store)) l.page l.initial.client.caller.0 l.fn.section (world l.initial.nodes.source.entries l.initial.nodes.target.entries l.initial.client) (world l.nodes.source.entries l.nodes.target.entries l.client) (kept_of l.page l.initial.client) (kept_of l.page l.client) l.fn.rest.items left l.items.items;
-      today : list_all is_line_today left ≡ true;
       front : IsFront l.fn.section l.next l.rest.items;
       caller : l.client.caller ≡ l.initial.client.caller;
       source_stays : StaysNode g.B.BlockStore.blocks g.B.BlockStore.faults l.initial.nodes.source l.nodes.source;

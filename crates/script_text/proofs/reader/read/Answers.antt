@@ -6,7 +6,6 @@ use Rattle.script_text.specs.Scripts.{start, read_line, meaning_of, IsFaultOf}
 use Rattle.script_text.proofs.Results.{err_at}
 use Rattle.script_text.proofs.Lines.{next_lines, bad_text, numbered}
 use Rattle.script_text.proofs.Order.{script_order}
-use Rattle.script_text.proofs.Todays.{script_today}
 use Rattle.script_text.proofs.reader.read.Goals as goal
 
 pub returns-in_err-read_line-clause-bad : goal.returns-in_err-read_line-clause-bad
@@ -24,17 +23,12 @@ loop-rest-preserved c =
       numbered = omega arith;
     }
 
-pub returns-clause-today : goal.returns-clause-today
-returns-clause-today c =
-    let script : meaning_of c.args.bytes.now ≡ Ok c.into_script.result = first_of (search rules, grind (arith, common_steps)) in
-    (script_today c.args.bytes.now c.into_script.result script).0
-
 pub returns-clause-clients : goal.returns-clause-clients
 returns-clause-clients c =
     let script : meaning_of c.args.bytes.now ≡ Ok c.into_script.result = first_of (search rules, grind (arith, common_steps)) in
-    (script_today c.args.bytes.now c.into_script.result script).1
+    (script_order c.args.bytes.now c.into_script.result script).1
 
 pub returns-clause-order : goal.returns-clause-order
 returns-clause-order c =
     let script : meaning_of c.args.bytes.now ≡ Ok c.into_script.result = first_of (search rules, grind (arith, common_steps)) in
-    script_order c.args.bytes.now c.into_script.result script
+    (script_order c.args.bytes.now c.into_script.result script).0
